@@ -1,0 +1,36 @@
+-- `digits::put_hex_line` meets its contract.
+-- Assumes nothing.
+use Prim.Native.Nat.{_%_}
+use native.Mathlib.Omega.{arith}
+use borrow.Author.Needs.{needs}
+use Rattle.output.proofs.Writes.{writes-then}
+use Rattle.digits.specs.Run.{hexLine}
+use Rattle.digits.proofs.Run.{short-length}
+use Rattle.digits.proofs.put_hex_line.Statement.{statement}
+use Rattle.digits.proofs.put_hex_line.Tie as tie
+
+put-short-requires : tie.Need-put-short-requires
+put-short-requires c κs = search needs
+
+add-t14 : tie.Need-add-t14
+add-t14 c = search needs
+
+put-run-requires : tie.Need-put-run-requires
+put-run-requires c κs =
+    let first = c .before .before .before in
+    let a = first .before .before .before .before .args in
+    let wrote = first .put-short .ensures .next in
+    (search needs, omega arith, omega (arith, short-length (a .bytes .now) (a .len) (a .count % 4) (a .from .0)))
+
+same-length : tie.Need-same-length
+same-length c = search needs
+
+returns : tie.Need-returns
+unfolding hexLine
+returns c =
+    let called = c .before .before in
+    writes-then (called .before .before .before .before .put-short .ensures) (called .put-run .ensures)
+
+pub put-hex-line-spec : {M : Type 1} → statement M
+put-hex-line-spec =
+    tie.close (tie.spec put-short-requires add-t14 put-run-requires same-length returns)

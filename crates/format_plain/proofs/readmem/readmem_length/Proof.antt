@@ -1,0 +1,60 @@
+-- `format_plain::readmem_length` meets its contract.
+-- Assumes nothing.
+use mathlib.Core.Path.{sym, _∙_}
+use Prim.Native.Nat.{_%_, _<_}
+use native.Mathlib.Nat.{mod-lt}
+use native.Mathlib.Omega.{arith}
+use borrow.Author.Needs.{needs}
+use Rattle.format_plain.proofs.Lengths.{digits-most, readmem-length}
+use Rattle.format_plain.proofs.readmem.readmem_length.Statement.{statement}
+use Rattle.format_plain.proofs.readmem.readmem_length.Tie as tie
+
+-- the last line has fewer digits than a whole line has bits
+last-small : (c : tie.After-line-length2) → c .line-length2 .result < 4096
+last-small c =
+    let start = c .before .before in
+    let rest = start .args .bits % start .args .width in
+    omega (arith, c .line-length2 .ensures, digits-most (start .args .kind) rest, mod-lt (start .args .bits) (start .pre .0))
+
+line-length-requires : tie.Need-line-length-requires
+line-length-requires c κs = search needs
+
+add-full : tie.Need-add-full
+add-full c = omega (arith, c .line-length .ensures, digits-most (c .before .args .kind) (c .before .args .width))
+
+rem-line-length : tie.Need-rem-line-length
+rem-line-length c = search needs
+
+line-length-requires-2 : tie.Need-line-length-requires-2
+line-length-requires-2 c κs = omega (arith, mod-lt (c .before .args .bits) (c .before .pre .0))
+
+add-last : tie.Need-add-last
+add-last c = omega (arith, last-small c)
+
+parts-length-requires : tie.Need-parts-length-requires
+parts-length-requires c κs =
+    let start = c .before .before in (
+      start .pre .0,
+      omega arith,
+      omega (arith, c .before .line-length .ensures, digits-most (start .args .kind) (start .args .width)),
+      omega (arith, last-small c),
+    )
+
+returns : tie.Need-returns
+returns c bytes =
+    let start = c .before .before .before in
+    let a = start .args in
+    readmem-length (a .kind) bytes (a .bits) (a .width) (start .pre .0)
+    ∙ rw (← c .before .before .line-length .ensures, ← c .before .line-length2 .ensures) (sym (c .parts-length .ensures))
+
+pub readmem-length-spec : {M : Type 1} → statement M
+readmem-length-spec =
+    tie.close
+    (tie.spec
+    line-length-requires
+    add-full
+    rem-line-length
+    line-length-requires-2
+    add-last
+    parts-length-requires
+    returns)

@@ -1,0 +1,113 @@
+// The memory files of Verilog (the Rust's `format_readmemb` and `format_readmemh`).
+ghost use mathlib.Core.Path.{_≡_};
+ghost use mathlib.Core.List.{List};
+ghost use Prim.Native.Nat.{ℕ, _+_, _*_, _≤_, _<_, _^_};
+ghost use lib.ListN.{length};
+ghost use Rattle.bitvec.specs.Size.{ceilDiv};
+ghost use Rattle.output.specs.Writes.{Writes};
+ghost use Rattle.output.specs.Outcome.{Exports};
+ghost use Rattle.format_plain.specs.Readmem.{lineText, lineDigits, readmemText, readmemOutcome, readmembOutcome, readmemhOutcome};
+use bitvec::BitOffset;
+use output::Export;
+
+// Which of the two files: a digit for each bit, or hexadecimal digits.
+pub enum Readmem {
+    Binary,
+    Hex,
+}
+
+// The number of digits of a line of `count` bits.
+fn line_length(kind: Readmem, count: usize) -> usize
+    requires { ⌜ count < 2 ^ 32 ⌝ }
+    ensures { λ r. ⌜ r ≡ lineDigits kind count ⌝ }
+{
+    match kind {
+        Readmem::Binary => count,
+        Readmem::Hex => bitvec::parts(count, 4),
+    }
+}
+
+// The length of the file.
+fn readmem_length(kind: Readmem, bits: usize, width: usize) -> usize
+    requires { ⌜ (0 < width) × (width ≤ 4096) × (bits ≤ 16777216) ⌝ }
+    ensures { λ r. ⌜ ((bytes : List ℕ) → length (readmemText kind bytes bits width) ≡ r) ⌝ }
+{
+    let full = line_length(kind, width) + 1;
+    let last = line_length(kind, bits % width) + 1;
+    digits::parts_length(bits, width, full, last)
+}
+
+// Stores a line of `count` bits from `from` on.
+fn put_line(
+    out: &mut [u8],
+    at: usize,
+    kind: Readmem,
+    image: &[u8],
+    bits: usize,
+    from: BitOffset,
+    count: usize,
+) -> usize
+    requires { ⌜ (from .0 + count < 2 ^ 64) × (at + length (lineText kind (now image) bits (from .0) count) ≤ length (now out)) ⌝ }
+    ensures { λ r. ⌜ Writes (lineText kind (now (image .entry)) bits (from .0) count) (now (out .entry)) at (now (out .exit)) r ⌝ }
+{
+    match kind {
+        Readmem::Binary => digits::put_run(out, at, image, bits, 1, from, count),
+        Readmem::Hex => digits::put_hex_line(out, at, image, bits, from, count),
+    }
+}
+
+// Stores the file, of `lines` lines.
+fn write_readmem(
+    kind: Readmem,
+    image: &[u8],
+    bits: usize,
+    width: usize,
+    lines: usize,
+    out: &mut [u8],
+) -> usize
+    requires { ⌜ (0 < width) × (width ≤ 4096) × (bits ≤ 16777216) × (lines ≡ ceilDiv bits width) × (length (readmemText kind (now image) bits width) ≤ length (now out)) ⌝ }
+    ensures { λ r. ⌜ Writes (readmemText kind (now (image .entry)) bits width) (now (out .entry)) 0 (now (out .exit)) r ⌝ }
+{
+    let mut offset = 0;
+    let mut next = 0;
+    let mut i = 0;
+    while i < lines {
+        let count = digits::least(width, bits - offset);
+        next = put_line(out, next, kind, image, bits, BitOffset(offset), count);
+        next = output::put(out, next, b'\n');
+        offset += width;
+        i += 1;
+    }
+    next
+}
+
+fn format_readmem(kind: Readmem, image: &[u8], bits: usize, width: usize, out: &mut [u8]) -> Export
+    ensures { λ r. ⌜ Exports (readmemOutcome kind (now (image .entry)) bits width (length (now (out .entry)))) r (now (out .entry)) (now (out .exit)) ⌝ }
+{
+    if bitvec::bad_size(image, bits) {
+        return Export::ImageSize;
+    }
+    if output::outside(1, 4096, width) {
+        return Export::OptionRange;
+    }
+    let needed = readmem_length(kind, bits, width);
+    if out.len() < needed {
+        return Export::NoRoom(needed);
+    }
+    let lines = bitvec::parts(bits, width);
+    Export::Text(write_readmem(kind, image, bits, width, lines, out))
+}
+
+// The file that `$readmemb` reads: lines of 1 to 4,096 bits.
+pub fn format_readmemb(image: &[u8], bits: usize, width: usize, out: &mut [u8]) -> Export
+    ensures { λ r. ⌜ Exports (readmembOutcome (now (image .entry)) bits width (length (now (out .entry)))) r (now (out .entry)) (now (out .exit)) ⌝ }
+{
+    format_readmem(Readmem::Binary, image, bits, width, out)
+}
+
+// The file that `$readmemh` reads: lines of 1 to 4,096 bits, in hexadecimal.
+pub fn format_readmemh(image: &[u8], bits: usize, width: usize, out: &mut [u8]) -> Export
+    ensures { λ r. ⌜ Exports (readmemhOutcome (now (image .entry)) bits width (length (now (out .entry)))) r (now (out .entry)) (now (out .exit)) ⌝ }
+{
+    format_readmem(Readmem::Hex, image, bits, width, out)
+}

@@ -1,0 +1,90 @@
+-- Laws of the digits of a number, each for every radix from 2 on.
+-- Assumes nothing.
+use mathlib.Core.Path.{_≡_, refl, sym, ap, _∙_}
+use mathlib.Core.Bool.{Bool, true, false, cond}
+use mathlib.Core.List.{List, [], _∷_, _++_, map, map-append}
+use Prim.Native.Nat.{ℕ, zero, suc, _+_, _-_, _*_, _/_, _%_, _^_, _≤_, _<_}
+use native.Mathlib.Omega.{arith}
+use native.Mathlib.Numerals.{add-one}
+use native.Mathlib.Nat.{pow-suc, div-lt-self, div-lt-iff-lt-mul, lt-of-lt-of-le, mul-le-mul-left}
+use lib.Dec.{ltb}
+use lib.ListN.{length, length-append, length-map}
+use borrow.Author.Tests.{lt-ltb, le-ltb, ltb-false}
+use Rattle.output.specs.declared.Letters.{Letters}
+use Rattle.output.specs.declared.Letters.the-variants.{Lower, Upper}
+use Rattle.output.specs.Digits.{letterTen, digitChar, digitsIn, digits, digitCount, numberText}
+use Rattle.output.proofs.Order.{by-order}
+
+pub letter-small : (letters : Letters) → letterTen letters ≤ 97
+letter-small Lower = omega arith
+letter-small Upper = omega arith
+
+-- A number below the radix is its own digit.
+pub digits-last : (radix n : ℕ) → n < radix → digits radix n ≡ n ∷ []
+unfolding digits digitsIn
+digits-last radix n h = simp (lt-ltb n radix h)
+
+-- A division makes it smaller.
+pub smaller : (radix n : ℕ) → 2 ≤ radix → radix ≤ n → n / radix < n
+smaller radix n h l = div-lt-self (omega arith) (omega arith)
+
+-- Any number of steps above the value is enough.
+enough : (radix : ℕ) → 2 ≤ radix → (s t n : ℕ) → n < s → n < t → digitsIn s radix n ≡ digitsIn t radix n
+unfolding digitsIn
+enough radix h zero t n p q = absurd (omega arith)
+enough radix h (suc s) zero n p q = absurd (omega arith)
+enough radix h (suc s) (suc t) n p q = go (enough radix h s t (n / radix)) (ltb n radix) refl
+  where
+    go : (n / radix < s → n / radix < t → digitsIn s radix (n / radix) ≡ digitsIn t radix (n / radix))
+        → (b : Bool) → ltb n radix ≡ b
+        → cond b (n ∷ []) (digitsIn s radix (n / radix) ++ (n % radix ∷ [])) ≡ cond b (n ∷ []) (digitsIn t radix (n / radix) ++ (n % radix ∷ []))
+    go ih true e = refl
+    go ih false e =
+        let l = smaller radix n h (ltb-false n radix e) in
+        ap (λ (d : List ℕ). d ++ (n % radix ∷ [])) (ih (omega arith) (omega arith))
+
+-- Any other has the digits of its quotient by the radix and then its remainder.
+pub digits-more : (radix n : ℕ) → 2 ≤ radix → radix ≤ n → digits radix n ≡ digits radix (n / radix) ++ (n % radix ∷ [])
+unfolding digits digitsIn
+digits-more radix n h l =
+    simp (le-ltb n radix l)
+    (ap (λ (d : List ℕ). d ++ (n % radix ∷ [])) (enough radix h n (suc (n / radix)) (n / radix) (smaller radix n h l) (omega arith)))
+
+pub count-last : (radix n : ℕ) → n < radix → digitCount radix n ≡ 1
+unfolding digitCount
+count-last radix n h = rw (digits-last radix n h)
+
+pub count-more : (radix n : ℕ) → 2 ≤ radix → radix ≤ n → digitCount radix n ≡ digitCount radix (n / radix) + 1
+unfolding digitCount
+count-more radix n h l = ap length (digits-more radix n h l) ∙ length-append (digits radix (n / radix)) (n % radix ∷ [])
+
+quotient-below : (radix : ℕ) → 2 ≤ radix → (k n : ℕ) → n < 2 ^ suc k → n / radix < 2 ^ k
+quotient-below radix h k n l = div-lt-iff-lt-mul {k = radix} (omega arith) .1 (lt-of-lt-of-le (rw pow-suc at l) (mul-le-mul-left (2 ^ k) h))
+
+-- A number of k + 1 bits has at most as many digits.
+pub count-small : (radix : ℕ) → 2 ≤ radix → (k n : ℕ) → n < 2 ^ suc k → digitCount radix n ≤ suc k
+count-small radix h zero n l = omega (arith, count-last radix n (omega arith))
+count-small radix h (suc k) n l =
+    by-order n radix
+    (λ p. omega (arith, count-last radix n p))
+    (λ p. omega (arith, count-more radix n h p, count-small radix h k (n / radix) (quotient-below radix h (suc k) n l)))
+
+-- There is a digit.
+pub count-some : (radix n : ℕ) → 2 ≤ radix → 1 ≤ digitCount radix n
+count-some radix n h =
+    by-order n radix (λ p. omega (arith, count-last radix n p)) (λ p. omega (arith, count-more radix n h p))
+
+pub number-last : (letters : Letters) (radix n : ℕ) → n < radix → numberText letters radix n ≡ digitChar letters n ∷ []
+unfolding numberText
+number-last letters radix n h = rw (digits-last radix n h)
+
+pub number-more : (letters : Letters) (radix n : ℕ) → 2 ≤ radix → radix ≤ n
+    → numberText letters radix n ≡ numberText letters radix (n / radix) ++ (digitChar letters (n % radix) ∷ [])
+unfolding numberText
+number-more letters radix n h l =
+    ap (map (digitChar letters)) (digits-more radix n h l) ∙ map-append (digitChar letters) (digits radix (n / radix)) (n % radix ∷ [])
+
+-- The text of a number has a character for each digit.
+pub number-length : (letters : Letters) (radix n : ℕ) → length (numberText letters radix n) ≡ digitCount radix n
+unfolding numberText digitCount
+number-length letters radix n = length-map (digits radix n) (digitChar letters)

@@ -1,0 +1,5 @@
+pub mod Order
+pub mod Writes
+pub mod Pieces
+pub mod Digits
+pub mod Outcome

@@ -1,0 +1,43 @@
+-- Laws of a run of stores and of writers.
+-- Assumes nothing.
+use mathlib.Core.Path.{_≡_, refl, sym, ap, _∙_}
+use mathlib.Core.List.{List, [], _∷_, _++_, append-nil}
+use Prim.Native.Nat.{ℕ, suc, _+_, _≤_, _<_}
+use native.Mathlib.Nat.{add-zero, add-suc, suc-add}
+use native.Mathlib.Numerals.{add-one}
+use native.Mathlib.Omega.{arith}
+use lib.ListN.{length, set, take, getD, length-append}
+use lib.Seq.{sets, length-sets, set-comm, length-take-le, take-suc}
+use Rattle.output.specs.Writes.{Writes}
+
+-- A run of stores goes on where the last one ended.
+pub sets-append : (a b l : List ℕ) (i : ℕ) → sets (sets l i a) (i + length a) b ≡ sets l i (a ++ b)
+sets-append [] b l i = ap (λ (k : ℕ). sets l k b) (add-zero i)
+sets-append (x ∷ a) b l i =
+    ap (λ (k : ℕ). sets (sets (set l i x) (suc i) a) k b) (add-suc i (length a) ∙ sym (suc-add i (length a))) ∙ sets-append a b (set l i x) (suc i)
+
+-- A store before a run can be made after it.
+set-sets : (t l : List ℕ) (i j x : ℕ) → i < j → set (sets l j t) i x ≡ sets (set l i x) j t
+set-sets [] l i j x h = refl
+set-sets (y ∷ t) l i j x h =
+    set-sets t (set l j y) i (suc j) x (omega arith) ∙ ap (λ (m : List ℕ). sets m (suc j) t) (set-comm l j i y x (omega arith))
+
+-- A run of stores that grows at its front.
+pub sets-before : (t l : List ℕ) (i j x : ℕ) → j ≡ i + 1 → set (sets l j t) i x ≡ sets l i (x ∷ t)
+sets-before t l i j x e = rw (e, add-one) (set-sets t l i (suc i) x (omega arith))
+
+-- Nothing written.
+pub writes-nothing : (l : List ℕ) (at : ℕ) → Writes [] l at l at
+writes-nothing l at = record { next = omega arith; stored = refl }
+
+-- One writer after another.
+pub writes-then : {a b l₀ l₁ l₂ : List ℕ} {at at₁ at₂ : ℕ} → Writes a l₀ at l₁ at₁ → Writes b l₁ at₁ l₂ at₂ → Writes (a ++ b) l₀ at l₂ at₂
+writes-then {a} {b} {l₀} {at = at} p q =
+    record {
+      next = simp length-append (omega (arith, p .next, q .next));
+      stored = q .stored ∙ rw (p .next, p .stored) (sets-append a b l₀ at);
+    }
+
+-- A writer leaves the buffer's length.
+pub writes-length : {t l₀ l₁ : List ℕ} {at r : ℕ} → Writes t l₀ at l₁ r → length l₁ ≡ length l₀
+writes-length p = ap length (p .stored) ∙ simp length-sets

@@ -1,0 +1,5 @@
+pub mod Ascii
+pub mod Digits
+pub mod Pieces
+pub mod Writes
+pub mod Outcome

@@ -1,0 +1,71 @@
+//! Compares our static library with the Rust of customasm, or prints a sample of the Rust's
+//! answers (`--vectors`). The environment variable RICESHOAL_SEED sets the seed of a comparison.
+
+#![cfg_attr(not(feature = "library"), allow(dead_code))]
+
+#[cfg(feature = "library")]
+mod capi;
+#[cfg(feature = "library")]
+mod check;
+mod input;
+#[cfg(feature = "library")]
+mod plain;
+#[cfg(feature = "library")]
+mod readmem;
+#[cfg(feature = "library")]
+mod runs;
+mod vectors;
+
+use std::process::ExitCode;
+
+fn main() -> ExitCode {
+    match std::env::args().nth(1).as_deref() {
+        None => compare(),
+        Some("--vectors") => match vectors::print() {
+            Ok(()) => ExitCode::SUCCESS,
+            Err(error) => failed(&error.to_string()),
+        },
+        Some(other) => failed(&format!("unknown argument {other}")),
+    }
+}
+
+fn failed(why: &str) -> ExitCode {
+    eprintln!("compare: {why}");
+    ExitCode::from(2)
+}
+
+#[cfg(not(feature = "library"))]
+fn compare() -> ExitCode {
+    failed("built without the library")
+}
+
+#[cfg(feature = "library")]
+fn compare() -> ExitCode {
+    let seed = match std::env::var("RICESHOAL_SEED").map(|text| text.parse()) {
+        Err(_) => input::SEED,
+        Ok(Ok(seed)) => seed,
+        Ok(Err(_)) => return failed("RICESHOAL_SEED is not a number"),
+    };
+    let families = [plain::family(), readmem::family()];
+    let mut checker = check::Checker::new(seed);
+    let runs: [(&str, fn(&mut check::Checker, &[check::Family])); 6] = [
+        ("every image of 0 to 12 bits", runs::small),
+        ("lengths of 0 to 600 bits", runs::lengths),
+        ("lengths around bytes and lines", runs::boundaries),
+        ("65,535 to 65,537 bits", runs::large),
+        ("16,777,215 and 16,777,216 bits", runs::limit),
+        ("refused bits and options", runs::refusals),
+    ];
+    for (name, run) in runs {
+        let (start, calls) = (std::time::Instant::now(), checker.calls);
+        run(&mut checker, &families);
+        let seconds = start.elapsed().as_secs_f64();
+        eprintln!("compare: {name}: {} calls, {seconds:.1} s", checker.calls - calls);
+    }
+    println!("compare: {} comparisons, {} differences", checker.calls, checker.differences);
+    if checker.differences == 0 {
+        ExitCode::SUCCESS
+    } else {
+        ExitCode::FAILURE
+    }
+}
