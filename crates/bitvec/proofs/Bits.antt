@@ -1,15 +1,15 @@
 -- Laws of bits and digits, each once for every width: bounds, one bit more, and equal digits where there are equal bits.
 -- Assumes nothing.
-use mathlib.Core.Path.{_≡_, refl, sym, ap, _∙_}
+use mathlib.Core.Path.{_≡_, refl}
 use mathlib.Core.Bool.{Bool, true, false, cond}
 use mathlib.Core.List.{List}
 use mathlib.Core.Logic.{_↔_}
 use Prim.Native.Nat.{ℕ, zero, suc, _+_, _-_, _*_, _/_, _%_, _^_, _<_, _≤_}
 use native.Mathlib.Omega.{arith}
 use native.Mathlib.Numerals.{add-one}
-use native.Mathlib.Nat.{pow-suc, lt-of-lt-of-le, zero-mul, zero-add}
+use native.Mathlib.Nat.{pow-suc, lt-of-lt-of-le, zero-div}
 use lib.Dec.{ltb}
-use lib.ListN.{getD}
+use lib.ListN.{length, getD, List·getD-eq-default}
 use lib.Pow.{pow-mono}
 use borrow.Author.Count.{below-none, below-more}
 use borrow.Author.Tests.{le-ltb}
@@ -19,6 +19,15 @@ use Rattle.bitvec.specs.Bits.{bitAt, bitsAt}
 pub bit-past : (bytes : List ℕ) (len i : ℕ) → len ≤ i → bitAt bytes len i ≡ 0
 unfolding bitAt
 bit-past bytes len i h = simp (le-ltb i len h)
+
+-- So is one past the bytes.
+pub bit-beyond : (bytes : List ℕ) (len i : ℕ) → length bytes ≤ i / 8 → bitAt bytes len i ≡ 0
+unfolding bitAt
+bit-beyond bytes len i h = rw (List·getD-eq-default bytes 0 h, zero-div) (cond-same (ltb i len))
+  where
+    cond-same : (t : Bool) → cond t (0 % 2) 0 ≡ 0
+    cond-same true = refl
+    cond-same false = refl
 
 -- A bit is 0 or 1.
 pub bit-small : (bytes : List ℕ) (len i : ℕ) → bitAt bytes len i < 2

@@ -1,9 +1,9 @@
 -- Laws of runs of digits and of lines in hexadecimal.
 -- Assumes nothing.
-use mathlib.Core.Path.{_≡_, refl, sym, ap, _∙_}
+use mathlib.Core.Path.{_≡_, refl, _∙_}
 use mathlib.Core.Bool.{Bool, true, false, cond}
 use mathlib.Core.List.{List, [], _∷_, _++_}
-use Prim.Native.Nat.{ℕ, zero, suc, _+_, _-_, _*_, _/_, _%_, _≤_, _<_, _^_, min}
+use Prim.Native.Nat.{ℕ, _+_, _*_, _/_, _%_, min}
 use native.Mathlib.Omega.{arith}
 use native.Mathlib.Nat.{mul-one}
 use lib.Dec.{eqb}

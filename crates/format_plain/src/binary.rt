@@ -1,6 +1,6 @@
 // The binary file of an image (the Rust's `format_binary`).
 ghost use mathlib.Core.Path.{_≡_};
-ghost use Prim.Native.Nat.{_+_, _≤_, _<_, _^_};
+ghost use Prim.Native.Nat.{_≤_, _<_, _^_};
 ghost use lib.ListN.{length};
 ghost use Rattle.bitvec.specs.Size.{ceilDiv};
 ghost use Rattle.output.specs.Writes.{Writes};

@@ -1,18 +1,17 @@
 -- Laws of the digits of a number, each for every radix from 2 on.
 -- Assumes nothing.
-use mathlib.Core.Path.{_≡_, refl, sym, ap, _∙_}
+use mathlib.Core.Path.{_≡_, refl, ap, _∙_}
 use mathlib.Core.Bool.{Bool, true, false, cond}
 use mathlib.Core.List.{List, [], _∷_, _++_, map, map-append}
-use Prim.Native.Nat.{ℕ, zero, suc, _+_, _-_, _*_, _/_, _%_, _^_, _≤_, _<_}
+use Prim.Native.Nat.{ℕ, zero, suc, _+_, _/_, _%_, _^_, _≤_, _<_}
 use native.Mathlib.Omega.{arith}
-use native.Mathlib.Numerals.{add-one}
-use native.Mathlib.Nat.{pow-suc, div-lt-self, div-lt-iff-lt-mul, lt-of-lt-of-le, mul-le-mul-left}
+use native.Mathlib.Nat.{pow-suc, div-lt-self, div-lt-iff-lt-mul, div-eq-of-lt, mod-eq-of-lt, lt-of-lt-of-le, mul-le-mul-left}
 use lib.Dec.{ltb}
 use lib.ListN.{length, length-append, length-map}
 use borrow.Author.Tests.{lt-ltb, le-ltb, ltb-false}
 use Rattle.output.specs.declared.Letters.{Letters}
 use Rattle.output.specs.declared.Letters.the-variants.{Lower, Upper}
-use Rattle.output.specs.Digits.{letterTen, digitChar, digitsIn, digits, digitCount, numberText}
+use Rattle.output.specs.Digits.{letterTen, digitChar, byteText, digitsIn, digits, digitCount, numberText, padded}
 use Rattle.output.proofs.Order.{by-order}
 
 pub letter-small : (letters : Letters) → letterTen letters ≤ 97
@@ -83,6 +82,14 @@ pub number-more : (letters : Letters) (radix n : ℕ) → 2 ≤ radix → radix 
 unfolding numberText
 number-more letters radix n h l =
     ap (map (digitChar letters)) (digits-more radix n h l) ∙ map-append (digitChar letters) (digits radix (n / radix)) (n % radix ∷ [])
+
+-- A byte as two digits is the number in radix 16, filled with zeros to width 2: the Rust's `{:02x}` and `{:02X}`.
+pub byte-padded : (letters : Letters) (b : ℕ) → b < 256 → byteText letters b ≡ padded 48 2 (numberText letters 16 b)
+unfolding byteText padded digitChar
+byte-padded letters b h =
+    by-order b 16
+    (λ p. rw (number-last letters 16 b p, div-eq-of-lt p, mod-eq-of-lt p))
+    (λ p. rw (number-more letters 16 b (omega arith) p, number-last letters 16 (b / 16) (omega arith)))
 
 -- The text of a number has a character for each digit.
 pub number-length : (letters : Letters) (radix n : ℕ) → length (numberText letters radix n) ≡ digitCount radix n

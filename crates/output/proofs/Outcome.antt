@@ -1,6 +1,6 @@
 -- Laws of an exporter's answers: an option in its range, and the last two answers, the text where there is room and refusal 8 where not.
 -- Assumes nothing.
-use mathlib.Core.Path.{_≡_, refl, ap, sym, _∙_}
+use mathlib.Core.Path.{_≡_, refl, ap}
 use mathlib.Core.Bool.{false}
 use mathlib.Core.List.{List}
 use mathlib.Mathlib.Data.Bool.Basic.{or-eq-false-eq-eq-false-and-eq-false}
@@ -9,9 +9,8 @@ use native.Mathlib.Omega.{arith}
 use lib.Dec.{ltb}
 use lib.ListN.{length}
 use borrow.Author.Tests.{lt-ltb, le-ltb, ltb-false}
-use Rattle.output.specs.declared.Export.{Export}
 use Rattle.output.specs.declared.Export.the-variants.{Text, NoRoom}
-use Rattle.output.specs.Outcome.{Answer, Outcome, text, refused, answer, answerOf, left, outside, inRoom, Exports}
+use Rattle.output.specs.Outcome.{text, refused, answerOf, outside, inRoom, Exports}
 use Rattle.output.specs.Writes.{Writes}
 
 -- An option that is not outside its range is in it.

@@ -1,13 +1,13 @@
 -- Laws of a run of stores and of writers.
 -- Assumes nothing.
 use mathlib.Core.Path.{_≡_, refl, sym, ap, _∙_}
-use mathlib.Core.List.{List, [], _∷_, _++_, append-nil}
-use Prim.Native.Nat.{ℕ, suc, _+_, _≤_, _<_}
+use mathlib.Core.List.{List, [], _∷_, _++_}
+use Prim.Native.Nat.{ℕ, suc, _+_, _<_}
 use native.Mathlib.Nat.{add-zero, add-suc, suc-add}
 use native.Mathlib.Numerals.{add-one}
 use native.Mathlib.Omega.{arith}
-use lib.ListN.{length, set, take, getD, length-append}
-use lib.Seq.{sets, length-sets, set-comm, length-take-le, take-suc}
+use lib.ListN.{length, set, length-append}
+use lib.Seq.{sets, length-sets, set-comm}
 use Rattle.output.specs.Writes.{Writes}
 
 -- A run of stores goes on where the last one ended.

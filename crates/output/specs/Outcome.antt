@@ -9,6 +9,7 @@ use lib.Seq.{sets}
 use Rattle.output.specs.declared.Export.{Export}
 use Rattle.output.specs.declared.Export.the-variants.{Text, ImageSize, OptionRange, SpanRange, EmptyImage, AddressRange, SourceText, SpanFault, NoRoom}
 
+-- A text, or a refusal: its number, and the value returned with it.
 pub data Outcome : Type 0 where
   text : List ℕ → Outcome
   refused : ℕ → ℕ → Outcome

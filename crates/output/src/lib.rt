@@ -1,7 +1,7 @@
 // The output buffer, what is written into it, and the answer of an export. A writer stores from `at`
 // on and answers the place behind what it wrote; its caller has shown that there is room.
 ghost use mathlib.Core.Path.{_≡_};
-ghost use mathlib.Core.List.{List, [], _∷_, _++_};
+ghost use mathlib.Core.List.{[], _∷_};
 ghost use Prim.Native.Nat.{_+_, _-_, _≤_, _<_, max};
 ghost use lib.ListN.{length, replicate};
 ghost use Rattle.output.specs.Digits.{letterTen, digitChar, byteText, digitCount, numberText, padded};

@@ -4,21 +4,17 @@ use crate::capi::{self, Answer};
 use crate::check::{Exporter, Exporters, Family, Text};
 use reference::util::{BitVec, FormatReadMemOptions};
 
-struct ReadMemB {
+/// One of the two formats, in our library and in the Rust.
+struct ReadMem {
+    name: &'static str,
     width: usize,
+    ours: fn(&[u8], usize, usize, &mut [u8]) -> Answer,
+    rust: fn(&BitVec, &FormatReadMemOptions) -> String,
 }
 
-struct ReadMemH {
-    width: usize,
-}
-
-fn width_fits(width: usize) -> bool {
-    (1..=4096).contains(&width)
-}
-
-impl Exporter for ReadMemB {
+impl Exporter for ReadMem {
     fn name(&self) -> String {
-        format!("format_readmemb with width {}", self.width)
+        format!("{} with width {}", self.name, self.width)
     }
 
     fn line(&self) -> usize {
@@ -26,48 +22,31 @@ impl Exporter for ReadMemB {
     }
 
     fn options_fit(&self) -> bool {
-        width_fits(self.width)
+        (1..=4096).contains(&self.width)
     }
 
     fn ours(&self, image: &[u8], bits: usize, out: &mut [u8]) -> Answer {
-        capi::format_readmemb(image, bits, self.width, out)
+        (self.ours)(image, bits, self.width, out)
     }
 
     fn rust(&self, image: &BitVec) -> Text {
-        image.format_readmemb(&FormatReadMemOptions { width: self.width }).into()
+        (self.rust)(image, &FormatReadMemOptions { width: self.width }).into()
     }
 }
 
-impl Exporter for ReadMemH {
-    fn name(&self) -> String {
-        format!("format_readmemh with width {}", self.width)
-    }
+fn readmemb(width: usize) -> Box<dyn Exporter> {
+    let (ours, rust) = (capi::format_readmemb, BitVec::format_readmemb);
+    Box::new(ReadMem { name: "format_readmemb", width, ours, rust })
+}
 
-    fn line(&self) -> usize {
-        self.width
-    }
-
-    fn options_fit(&self) -> bool {
-        width_fits(self.width)
-    }
-
-    fn ours(&self, image: &[u8], bits: usize, out: &mut [u8]) -> Answer {
-        capi::format_readmemh(image, bits, self.width, out)
-    }
-
-    fn rust(&self, image: &BitVec) -> Text {
-        image.format_readmemh(&FormatReadMemOptions { width: self.width }).into()
-    }
+fn readmemh(width: usize) -> Box<dyn Exporter> {
+    let (ours, rust) = (capi::format_readmemh, BitVec::format_readmemh);
+    Box::new(ReadMem { name: "format_readmemh", width, ours, rust })
 }
 
 /// Both formats at each of the widths.
 fn both(widths: impl IntoIterator<Item = usize>) -> Exporters {
-    let mut all: Exporters = Vec::new();
-    for width in widths {
-        all.push(Box::new(ReadMemB { width }));
-        all.push(Box::new(ReadMemH { width }));
-    }
-    all
+    widths.into_iter().flat_map(|width| [readmemb(width), readmemh(width)]).collect()
 }
 
 pub fn family() -> Family {

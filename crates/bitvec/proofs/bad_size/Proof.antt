@@ -1,4 +1,4 @@
--- `bitvec::bad_size` meets its contract.
+-- `bitvec::bad_size` meets its contract: each return goes by the tests that led to it.
 -- Assumes nothing.
 use Prim.Native.Nat.{_*_}
 use native.Mathlib.Omega.{arith}

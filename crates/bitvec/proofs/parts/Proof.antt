@@ -1,4 +1,4 @@
--- `bitvec::parts` meets its contract.
+-- `bitvec::parts` meets its contract: the quotient is the one that the definition names.
 -- Assumes nothing.
 use mathlib.Core.Path.{refl}
 use Rattle.bitvec.specs.Size.{ceilDiv}

@@ -1,4 +1,4 @@
--- `bitvec::read_bit` meets its contract.
+-- `bitvec::read_bit` meets its contract: past the bit length and past the bytes the bit is 0, and else it is cut out of its byte.
 -- Assumes nothing.
 use native.Mathlib.Nat.{zero-div}
 use lib.ListN.{List·getD-eq-default}

@@ -1,4 +1,4 @@
--- `capi::riceshoal_format_binary` meets its contract.
+-- `capi::riceshoal_format_binary` meets its contract: what the exporter promises is returned and stored.
 -- Assumes nothing.
 use mathlib.Core.Path.{ap, _∙_}
 use borrow.Author.Needs.{needs}

@@ -1,4 +1,4 @@
--- `capi::riceshoal_format_readmemb` meets its contract.
+-- `capi::riceshoal_format_readmemb` meets its contract: what the exporter promises is returned and stored.
 -- Assumes nothing.
 use borrow.Author.Needs.{needs}
 use Rattle.capi.proofs.Returns.{gives}

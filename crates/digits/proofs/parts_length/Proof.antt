@@ -1,4 +1,4 @@
--- `digits::parts_length` meets its contract.
+-- `digits::parts_length` meets its contract: the product does not wrap, and each return goes by its test.
 -- Assumes nothing.
 use Prim.Native.Nat.{_*_, _/_, _^_, _≤_}
 use native.Mathlib.Nat.{mul-le-mul, div-le-self}

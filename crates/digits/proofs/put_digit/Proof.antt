@@ -1,4 +1,4 @@
--- `digits::put_digit` meets its contract.
+-- `digits::put_digit` meets its contract: the digit that is read is the digit that is written.
 -- Assumes nothing.
 use native.Mathlib.Omega.{arith}
 use borrow.Author.Needs.{needs}

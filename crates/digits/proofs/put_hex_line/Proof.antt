@@ -1,4 +1,4 @@
--- `digits::put_hex_line` meets its contract.
+-- `digits::put_hex_line` meets its contract: the short digit and the run of whole ones, one after the other.
 -- Assumes nothing.
 use Prim.Native.Nat.{_%_}
 use native.Mathlib.Omega.{arith}

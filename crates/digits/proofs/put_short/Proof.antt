@@ -1,4 +1,4 @@
--- `digits::put_short` meets its contract.
+-- `digits::put_short` meets its contract: nothing for no bits, and else one digit.
 -- Assumes nothing.
 use borrow.Author.Tests.{eq-eqb, ne-eqb}
 use borrow.Author.Needs.{needs}

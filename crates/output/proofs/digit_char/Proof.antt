@@ -1,4 +1,4 @@
--- `output::digit_char` meets its contract.
+-- `output::digit_char` meets its contract: the test tells a digit from a letter.
 -- Assumes nothing.
 use native.Mathlib.Omega.{arith}
 use borrow.Author.Tests.{lt-ltb, le-ltb}

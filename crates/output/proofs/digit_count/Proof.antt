@@ -1,6 +1,6 @@
--- `output::digit_count` meets its contract.
+-- `output::digit_count` meets its contract: the digits counted and those of what is left make the whole number.
 -- Assumes nothing.
-use mathlib.Core.Path.{_≡_, refl}
+use mathlib.Core.Path.{_≡_}
 use Prim.Native.Nat.{_+_}
 use native.Mathlib.Omega.{arith}
 use borrow.Author.Needs.{needs}

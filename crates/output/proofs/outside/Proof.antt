@@ -1,4 +1,4 @@
--- `output::outside` meets its contract.
+-- `output::outside` meets its contract: each return goes by the tests that led to it.
 -- Assumes nothing.
 use borrow.Author.Tests.{lt-ltb, le-ltb}
 use Rattle.output.specs.Outcome.{outside}

@@ -1,4 +1,4 @@
--- `output::put_byte` meets its contract.
+-- `output::put_byte` meets its contract: two writers, one after the other.
 -- Assumes nothing.
 use borrow.Author.Needs.{needs}
 use Rattle.output.specs.Digits.{byteText}

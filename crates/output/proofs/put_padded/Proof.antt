@@ -1,4 +1,4 @@
--- `output::put_padded` meets its contract.
+-- `output::put_padded` meets its contract: the fill and the number, one after the other.
 -- Assumes nothing.
 use mathlib.Core.Path.{_≡_}
 use Prim.Native.Nat.{_-_}

@@ -1,4 +1,4 @@
--- `format_plain::format_str` meets its contract.
+-- `format_plain::digit_str::format_str` meets its contract: each return goes by the tests that led to it; the length is known before anything is written.
 -- Assumes nothing.
 use mathlib.Core.Path.{_≡_, refl, sym, _∙_}
 use mathlib.Core.Bool.{false}

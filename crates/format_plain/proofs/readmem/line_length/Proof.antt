@@ -1,4 +1,4 @@
--- `format_plain::line_length` meets its contract.
+-- `format_plain::readmem::line_length` meets its contract: one case for each kind of file.
 -- Assumes nothing.
 use borrow.Author.Needs.{needs}
 use Rattle.format_plain.specs.Readmem.{lineDigits}

@@ -1,4 +1,4 @@
--- `format_plain::put_line` meets its contract.
+-- `format_plain::readmem::put_line` meets its contract: one case for each kind of file.
 -- Assumes nothing.
 use mathlib.Core.Path.{_≡_, ap}
 use Prim.Native.Nat.{_+_, _/_}

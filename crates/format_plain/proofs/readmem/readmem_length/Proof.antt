@@ -1,4 +1,4 @@
--- `format_plain::readmem_length` meets its contract.
+-- `format_plain::readmem::readmem_length` meets its contract: the length is that of the whole lines and of the last one.
 -- Assumes nothing.
 use mathlib.Core.Path.{sym, _∙_}
 use Prim.Native.Nat.{_%_, _<_}

@@ -1,0 +1,19 @@
+-- The proved table: each row's outcome is the text that document 01 prints. The definitions compute, and one theorem says it of all rows.
+-- Assumes nothing.
+use mathlib.Core.Path.{_≡_, refl}
+use mathlib.Core.List.{map}
+use Rattle.bitvec.specs.Bits.{bitAt, bitsAt}
+use Rattle.bitvec.specs.Size.{badSize, ceilDiv}
+use Rattle.output.specs.Ascii.{ascii}
+use Rattle.output.specs.Digits.{digitChar}
+use Rattle.output.specs.Pieces.{pieces}
+use Rattle.output.specs.Outcome.{text, outside}
+use Rattle.digits.specs.Run.{digitAt, run, shortDigit, hexLine}
+use Rattle.digits.specs.Parts.{partBits}
+use Rattle.format_plain.specs.Str.{strText, strOutcome}
+use Rattle.format_plain.specs.Readmem.{lineText, readmemText, readmemOutcome}
+use Rattle.examples.specs.Table.{Row, rows}
+
+pub table : map (λ (r : Row). r .given) rows ≡ map (λ (r : Row). text (ascii (r .printed))) rows
+unfolding bitAt bitsAt badSize ceilDiv digitChar pieces outside digitAt run shortDigit hexLine partBits strText strOutcome lineText readmemText readmemOutcome
+table = refl

@@ -1,0 +1,33 @@
+-- The rows of document 01's table of checked examples that are marked P, in its order: what the definitions give, beside the text that
+-- the paper prints. Formats that are not there yet add their rows as they arrive.
+use mathlib.Core.List.{List, [], _∷_}
+use Prim.Native.Nat.{ℕ}
+use Prim.Native.String.{String}
+use Rattle.output.specs.Outcome.{Outcome}
+use Rattle.format_plain.specs.Str.{strOutcome}
+use Rattle.format_plain.specs.Readmem.{readmembOutcome, readmemhOutcome}
+
+pub record Row : Type 0 where
+  pub given : Outcome
+  pub printed : String
+
+abbrev pub row : Outcome → String → Row
+row o s = record { given = o; printed = s }
+
+-- The bits 10110, in a byte whose spare bits are set.
+abbrev pub bits10110 : List ℕ
+bits10110 = 0b10110111 ∷ []
+
+-- Room for each of the texts.
+abbrev pub room : ℕ
+room = 256
+
+abbrev pub rows : List Row
+rows =
+    -- hexstr, bits 10110
+    row (strOutcome bits10110 5 4 room) "b0"
+    -- readmemh width 5, bits 10110
+    ∷ row (readmemhOutcome bits10110 5 5 room) "16\n"
+    -- readmemb width 3, bits 10110
+    ∷ row (readmembOutcome bits10110 5 3 room) "101\n10\n"
+    ∷ []
