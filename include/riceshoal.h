@@ -9,8 +9,8 @@
  *   2  an option is outside its range                                  value 0
  *   8  the text is longer than the output buffer                       value: the length needed
  *
- * The refusals are checked in this order. A pointer whose length is 0 need not point at anything,
- * but must not be null. `image` and `out` must not overlap.
+ * The refusals are checked in this order. No pointer may be null, also where its length is 0, and no
+ * two of `image`, `out`, `value` and `padded` may overlap.
  */
 #ifndef RICESHOAL_H
 #define RICESHOAL_H
