@@ -1,6 +1,7 @@
 // Runs examples through the library and compares: the rows of document 01's table, the marked ones
 // too, and what document 01 says in words of each refusal. Prints a line for each and a count. IEEE
-// 1364 describes the files of $readmemb and $readmemh and prints none, so none is run here.
+// 1364, which describes the files of $readmemb and $readmemh, was not at hand: no example of its own
+// is run here.
 ghost use Prim.Native.Nat.{_≤_};
 ghost use lib.ListN.{length};
 use output::Export;
