@@ -9,6 +9,9 @@
  *   2  an option is outside its range                                  value 0
  *   8  the text is longer than the output buffer                       value: the length needed
  *
+ * To learn the length of a text before there is a buffer for it, call with an out_len of 0: where
+ * neither 1 nor 2 applies, the length is stored, with 8, or with 0 where the text is empty.
+ *
  * The refusals are checked in this order. No pointer may be null, also where its length is 0, and no
  * two of `image`, `out`, `value` and `padded` may overlap.
  */

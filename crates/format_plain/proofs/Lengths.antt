@@ -18,7 +18,7 @@ use Rattle.format_plain.specs.declared.readmem.Readmem.{Readmem}
 use Rattle.format_plain.specs.declared.readmem.Readmem.the-variants.{Binary, Hex}
 use Rattle.format_plain.specs.Binary.{binaryText}
 use Rattle.format_plain.specs.Str.{strText}
-use Rattle.format_plain.specs.Readmem.{lineText, lineDigits, readmemText}
+use Rattle.format_plain.specs.Readmem.{lineText, readmemText}
 
 -- A byte for each 8 bits.
 pub binary-length : (bytes : List ℕ) (len : ℕ) → length (binaryText bytes len) ≡ ceilDiv len 8
@@ -30,15 +30,20 @@ pub str-length : (bytes : List ℕ) (len w : ℕ) → length (strText bytes len 
 unfolding strText
 str-length bytes len w = run-length bytes len w 0 (ceilDiv len w)
 
+-- How many digits a line of m bits has.
+abbrev pub lineDigits : Readmem → ℕ → ℕ
+lineDigits Binary m = m
+lineDigits Hex m = ceilDiv m 4
+
 -- A line has as many characters as digits.
 pub line-digits : (kind : Readmem) (bytes : List ℕ) (len i m : ℕ) → length (lineText kind bytes len i m) ≡ lineDigits kind m
-unfolding lineText lineDigits ceilDiv
+unfolding lineText ceilDiv
 line-digits Binary bytes len i m = run-length bytes len 1 i m
 line-digits Hex bytes len i m = line-length bytes len i m
 
 -- At most one for each bit.
 pub digits-most : (kind : Readmem) (m : ℕ) → lineDigits kind m ≤ m
-unfolding lineDigits ceilDiv
+unfolding ceilDiv
 digits-most Binary m = omega arith
 digits-most Hex m = omega arith
 

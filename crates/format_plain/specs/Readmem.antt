@@ -16,11 +16,6 @@ unfoldable pub lineText : Readmem → List ℕ → ℕ → ℕ → ℕ → List 
 lineText Binary bytes len i m = run bytes len 1 i m
 lineText Hex bytes len i m = hexLine bytes len i m
 
--- How many digits a line of m bits has.
-unfoldable pub lineDigits : Readmem → ℕ → ℕ
-lineDigits Binary m = m
-lineDigits Hex m = ceilDiv m 4
-
 -- A line for each width bits, the last one perhaps shorter.
 unfoldable pub readmemText : Readmem → List ℕ → ℕ → ℕ → List ℕ
 readmemText kind bytes len width = pieces (λ i. lineText kind bytes len (i * width) (partBits len width i) ++ ascii "\n") (ceilDiv len width)

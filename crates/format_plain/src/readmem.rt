@@ -6,7 +6,7 @@ ghost use lib.ListN.{length};
 ghost use Rattle.bitvec.specs.Size.{ceilDiv};
 ghost use Rattle.output.specs.Writes.{Writes};
 ghost use Rattle.output.specs.Outcome.{Exports};
-ghost use Rattle.format_plain.specs.Readmem.{lineText, lineDigits, readmemText, readmemOutcome, readmembOutcome, readmemhOutcome};
+ghost use Rattle.format_plain.specs.Readmem.{lineText, readmemText, readmemOutcome, readmembOutcome, readmemhOutcome};
 use bitvec::BitOffset;
 use output::Export;
 
@@ -16,10 +16,10 @@ pub enum Readmem {
     Hex,
 }
 
-// The number of digits of a line of `count` bits.
+// The length of a line of `count` bits, whatever the image.
 fn line_length(kind: Readmem, count: usize) -> usize
     requires { ⌜ count < 2 ^ 32 ⌝ }
-    ensures { λ r. ⌜ r ≡ lineDigits kind count ⌝ }
+    ensures { λ r. ⌜ ((bytes : List ℕ) (len i : ℕ) → length (lineText kind bytes len i count) ≡ r) ⌝ }
 {
     match kind {
         Readmem::Binary => count,

@@ -6,8 +6,8 @@ use native.Mathlib.Omega.{arith}
 use borrow.Author.Needs.{needs}
 use Rattle.bitvec.specs.Size.{ceilDiv}
 use Rattle.format_plain.specs.declared.readmem.Readmem.{Readmem}
-use Rattle.format_plain.specs.Readmem.{lineText, lineDigits}
-use Rattle.format_plain.proofs.Lengths.{line-digits}
+use Rattle.format_plain.specs.Readmem.{lineText}
+use Rattle.format_plain.proofs.Lengths.{lineDigits, line-digits}
 use Rattle.format_plain.proofs.readmem.put_line.Statement.{statement}
 use Rattle.format_plain.proofs.readmem.put_line.Tie as tie
 
@@ -15,7 +15,6 @@ enum-told : tie.Need-enum-told
 enum-told c = search needs
 
 put-run-requires : tie.Need-put-run-requires
-unfolding lineDigits
 put-run-requires c κs =
     let start = c .before .before .before .before .before in
     let a = start .args in
@@ -26,7 +25,7 @@ enum-told-2 : tie.Need-enum-told-2
 enum-told-2 c = search needs
 
 put-hex-line-requires : tie.Need-put-hex-line-requires
-unfolding lineDigits ceilDiv
+unfolding ceilDiv
 put-hex-line-requires c κs =
     let start = c .before .before .before .before .before in
     let a = start .args in
