@@ -1,2 +1,3 @@
 pub mod Run
 pub mod Parts
+pub mod Base

@@ -7,6 +7,7 @@ ghost use Prim.Native.Nat.{_+_, _*_, _/_, _%_, _≤_, _<_, _^_, min};
 ghost use lib.Dec.{eqb};
 ghost use lib.ListN.{length};
 ghost use Rattle.output.specs.Writes.{Writes};
+ghost use Rattle.digits.specs.Base.{baseBits};
 ghost use Rattle.digits.specs.Run.{digitAt, run, shortDigit, hexLine};
 use bitvec::BitOffset;
 use output::Letters;
@@ -114,4 +115,26 @@ pub fn parts_length(len: usize, width: usize, full: usize, last: usize) -> usize
         return whole;
     }
     whole + last
+}
+
+// How many bits a digit has in base 2, 4, 8, 16 or 32, and 0 for what is no base.
+pub fn base_bits(base: usize) -> usize
+    ensures { λ r. ⌜ r ≡ baseBits base ⌝ }
+{
+    if base == 2 {
+        return 1;
+    }
+    if base == 4 {
+        return 2;
+    }
+    if base == 8 {
+        return 3;
+    }
+    if base == 16 {
+        return 4;
+    }
+    if base == 32 {
+        return 5;
+    }
+    0
 }

@@ -3,11 +3,11 @@
 use mathlib.Core.Path.{_≡_, refl, ap, _∙_}
 use mathlib.Core.Bool.{Bool, true, false, cond}
 use mathlib.Core.List.{List, [], _∷_, _++_, map, map-append}
-use Prim.Native.Nat.{ℕ, zero, suc, _+_, _/_, _%_, _^_, _≤_, _<_}
+use Prim.Native.Nat.{ℕ, zero, suc, _+_, _/_, _%_, _^_, _≤_, _<_, _-_, max}
 use native.Mathlib.Omega.{arith}
-use native.Mathlib.Nat.{pow-suc, div-lt-self, div-lt-iff-lt-mul, div-eq-of-lt, mod-eq-of-lt, lt-of-lt-of-le, mul-le-mul-left}
+use native.Mathlib.Nat.{pow-suc, div-lt-self, div-lt-iff-lt-mul, div-eq-of-lt, mod-eq-of-lt, lt-of-lt-of-le, mul-le-mul-left, le-div-iff-mul-le, div-mul-le-self}
 use lib.Dec.{ltb}
-use lib.ListN.{length, length-append, length-map}
+use lib.ListN.{length, replicate, length-append, length-map, length-replicate}
 use borrow.Author.Tests.{lt-ltb, le-ltb, ltb-false}
 use Rattle.output.specs.declared.Letters.{Letters}
 use Rattle.output.specs.declared.Letters.the-variants.{Lower, Upper}
@@ -95,3 +95,31 @@ byte-padded letters b h =
 pub number-length : (letters : Letters) (radix n : ℕ) → length (numberText letters radix n) ≡ digitCount radix n
 unfolding numberText digitCount
 number-length letters radix n = length-map (digits radix n) (digitChar letters)
+
+-- A larger number has no fewer digits. Any number of steps above the smaller one is enough.
+count-rises-in : (radix : ℕ) → 2 ≤ radix → (steps m n : ℕ) → m < steps → m ≤ n → digitCount radix m ≤ digitCount radix n
+count-rises-in radix h zero m n s l = absurd (omega arith)
+count-rises-in radix h (suc steps) m n s l =
+    by-order m radix
+    (λ p. omega (arith, count-last radix m p, count-some radix n h))
+    (λ p.
+    let fewer = smaller radix m h p in
+    let below : m / radix ≤ n / radix = le-div-iff-mul-le (omega arith) .1 (omega (arith, div-mul-le-self m radix)) in
+    let quotients = count-rises-in radix h steps (m / radix) (n / radix) (omega arith) below in
+    omega (arith, count-more radix m h p, count-more radix n h (omega arith)))
+
+pub count-rises : (radix : ℕ) → 2 ≤ radix → (m n : ℕ) → m ≤ n → digitCount radix m ≤ digitCount radix n
+count-rises radix h m n l = count-rises-in radix h (suc m) m n (omega arith) l
+
+-- A text that is filled to a width has it, or its own where that is larger.
+pub padded-length : (fill width : ℕ) (t : List ℕ) → length (padded fill width t) ≡ max width (length t)
+unfolding padded
+padded-length fill width t =
+    length-append (replicate (width - length t) fill) t ∙ rw (length-replicate (width - length t) fill) (omega arith)
+
+-- A number that is filled to the digits of a larger one has as many characters: an address in a column as wide as the last one.
+pub column-length : (fill : ℕ) (letters : Letters) (radix : ℕ) → 2 ≤ radix → (n last : ℕ) → n ≤ last
+    → length (padded fill (digitCount radix last) (numberText letters radix n)) ≡ digitCount radix last
+column-length fill letters radix h n last l =
+    padded-length fill (digitCount radix last) (numberText letters radix n)
+    ∙ rw (number-length letters radix n) (omega (arith, count-rises radix h n last l))

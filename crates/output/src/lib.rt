@@ -2,9 +2,10 @@
 // on and answers the place behind what it wrote; its caller has shown that there is room.
 ghost use mathlib.Core.Path.{_≡_};
 ghost use mathlib.Core.List.{[], _∷_};
-ghost use Prim.Native.Nat.{_+_, _-_, _≤_, _<_, max};
+ghost use Prim.Native.Nat.{_+_, _-_, _*_, _/_, _≤_, _<_, _^_, max};
 ghost use lib.ListN.{length, replicate};
 ghost use Rattle.output.specs.Digits.{letterTen, digitChar, byteText, digitCount, numberText, padded};
+ghost use Rattle.output.specs.Pieces.{every};
 ghost use Rattle.output.specs.Writes.{Writes};
 ghost use Rattle.output.specs.Outcome.{answerOf, outside};
 
@@ -200,4 +201,26 @@ pub fn put_padded(
     let count = digit_count(value, radix);
     let next = put_fill(out, at, fill, free(count, width));
     put_number(out, next, letters, value, radix)
+}
+
+// Stores `byte` where `n` divides `k`, and nothing where not.
+pub fn put_every(out: &mut [u8], at: usize, n: usize, k: usize, byte: u8) -> usize
+    requires { ⌜ (0 < n) × (at + length (every n k (byte ∷ [])) ≤ length (now out)) ⌝ }
+    ensures { λ r. ⌜ Writes (every n k (byte ∷ [])) (now (out .entry)) at (now (out .exit)) r ⌝ }
+{
+    if k % n != 0 {
+        return at;
+    }
+    put(out, at, byte)
+}
+
+// How long the texts between `count` items are together: the text before item k has the length
+// `whole` where `n` divides k, and `other` where not.
+pub fn between_length(count: usize, n: usize, whole: usize, other: usize) -> usize
+    requires { ⌜ (0 < n) × (count < 2 ^ 32) × (whole < 2 ^ 31) × (other < 2 ^ 31) ⌝ }
+    ensures { λ r. ⌜ r ≡ (count - 1) / n * whole + ((count - 1) - (count - 1) / n) * other ⌝ }
+{
+    let gaps = free(1, count);
+    let wholes = gaps / n;
+    wholes * whole + (gaps - wholes) * other
 }
