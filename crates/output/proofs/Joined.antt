@@ -1,11 +1,11 @@
 -- Laws of items with a text between each two.
 -- Assumes nothing.
-use mathlib.Core.Path.{_≡_, refl, sym, _∙_}
+use mathlib.Core.Path.{_≡_, refl, _∙_}
 use mathlib.Core.Bool.{Bool, true, false, cond}
 use mathlib.Core.List.{List, [], _++_}
 use Prim.Native.Nat.{ℕ, zero, suc, _+_, _-_, _*_, _/_, _%_, _≤_, _<_}
 use native.Mathlib.Numerals.{add-one}
-use native.Mathlib.Nat.{div-add-mod', mod-lt, div-eq-of-lt-le, suc-mul, zero-div, div-le-self, add-zero, add-sub-cancel}
+use native.Mathlib.Nat.{div-add-mod', mod-lt, div-eq-of-lt-le, suc-mul, zero-div, div-le-self, mul-le-mul, add-zero, add-sub-cancel}
 use native.Mathlib.Omega.{arith}
 use lib.Dec.{eqb}
 use lib.ListN.{length, length-append}
@@ -83,19 +83,30 @@ gap-next d a b m false =
     let more : m + 1 - (m / d + 0) ≡ m - m / d + 1 = omega arith in
     rw (more, add-zero) (omega (arith, suc-mul (m - m / d) b))
 
-gaps : (between : ℕ → List ℕ) (d a b : ℕ) → 0 < d
-    → ((k : ℕ) → length (between k) ≡ cond (eqb (k % d) 0) a b)
-    → (m : ℕ) → length (pieces (leading between) (m + 1)) ≡ m / d * a + (m - m / d) * b
+gaps : (between : ℕ → List ℕ) (d a b : ℕ) → 0 < d → (m : ℕ)
+    → ((k : ℕ) → k < m + 1 → length (between k) ≡ cond (eqb (k % d) 0) a b)
+    → length (pieces (leading between) (m + 1)) ≡ m / d * a + (m - m / d) * b
 unfolding pieces leading
-gaps between d a b h e zero = rw (zero-div d) (omega arith)
-gaps between d a b h e (suc m) =
+gaps between d a b h zero e = rw (zero-div d) (omega arith)
+gaps between d a b h (suc m) e =
     rw (← add-one m, pieces-next (leading between) (m + 1))
     (length-append (pieces (leading between) (m + 1)) (leading between (m + 1))
-    ∙ rw (gaps between d a b h e m, leading-more between m, e (m + 1), quotient-next m d h) (gap-next d a b m (eqb ((m + 1) % d) 0)))
+    ∙ rw (gaps between d a b h m (λ k l. e k (omega arith)), leading-more between m, e (m + 1) (omega arith), quotient-next m d h)
+    (gap-next d a b m (eqb ((m + 1) % d) 0)))
 
 -- How long the texts between n items are, where each has the length a at the places that d divides and b at the others.
 pub between-length : (between : ℕ → List ℕ) (d a b n : ℕ) → 0 < d
-    → ((k : ℕ) → length (between k) ≡ cond (eqb (k % d) 0) a b)
+    → ((k : ℕ) → k < n → length (between k) ≡ cond (eqb (k % d) 0) a b)
     → length (pieces (leading between) n) ≡ (n - 1) / d * a + ((n - 1) - (n - 1) / d) * b
 between-length between d a b zero h e = rw (pieces-none, zero-div d) (omega arith)
-between-length between d a b (suc m) h e = rw (← add-one m, add-sub-cancel) (gaps between d a b h e m)
+between-length between d a b (suc m) h e = rw (← add-one m, add-sub-cancel) (gaps between d a b h m (λ k l. e k (omega arith)))
+
+-- They are short where there are few of them and each is.
+pub between-small : (d a b n m c : ℕ) → n ≤ m → a ≤ c → b ≤ c → (n - 1) / d * a + ((n - 1) - (n - 1) / d) * b ≤ m * c + m * c
+between-small d a b n m c l p q =
+    let most = div-le-self (n - 1) d in
+    omega (
+      arith,
+      mul-le-mul {n₁ = (n - 1) / d} {m₁ = a} {n₂ = m} {m₂ = c} (omega arith) p,
+      mul-le-mul {n₁ = (n - 1) - (n - 1) / d} {m₁ = b} {n₂ = m} {m₂ = c} (omega arith) q,
+    )

@@ -1,20 +1,21 @@
 -- `output::between_length` meets its contract: the products do not wrap.
 -- Assumes nothing.
-use mathlib.Core.Path.{_≡_}
-use Prim.Native.Nat.{ℕ, _-_, _*_, _/_, _^_, _≤_}
-use native.Mathlib.Nat.{mul-le-mul, div-le-self}
+use Prim.Native.Nat.{_+_, _-_, _*_, _/_, _^_, _≤_}
+use native.Mathlib.Nat.{div-le-self}
 use native.Mathlib.Omega.{arith}
 use borrow.Author.Needs.{needs}
+use Rattle.output.proofs.Joined.{between-small}
 use Rattle.output.proofs.between_length.Statement.{statement}
 use Rattle.output.proofs.between_length.Tie as tie
 
--- both products are below 2 ^ 63
-wholes-bound : (c : tie.After-free) → c .free .result / c .before .args .n * c .before .args .whole ≤ (2 ^ 32 - 1) * (2 ^ 31 - 1)
-wholes-bound c =
-    mul-le-mul {n₂ = 2 ^ 32 - 1} {m₂ = 2 ^ 31 - 1} (omega (arith, div-le-self (c .free .result) (c .before .args .n))) (search needs)
-
-others-bound : (c : tie.After-free) → (c .free .result - c .free .result / c .before .args .n) * c .before .args .other ≤ (2 ^ 32 - 1) * (2 ^ 31 - 1)
-others-bound c = mul-le-mul {n₂ = 2 ^ 32 - 1} {m₂ = 2 ^ 31 - 1} (omega arith) (search needs)
+-- the sum is below 2 ^ 64
+small : (c : tie.After-free)
+    → (let a = c .before .args in
+    c .free .result / a .n * a .whole + (c .free .result - c .free .result / a .n) * a .other ≤ (2 ^ 32 - 1) * (2 ^ 31 - 1) + (2 ^ 32 - 1) * (2 ^ 31 - 1))
+small c =
+    let a = c .before .args in
+    rw (c .free .ensures)
+    (between-small (a .n) (a .whole) (a .other) (a .count) (2 ^ 32 - 1) (2 ^ 31 - 1) (search needs) (search needs) (search needs))
 
 free-requires : tie.Need-free-requires
 free-requires c κs = search needs
@@ -23,16 +24,16 @@ div-wholes : tie.Need-div-wholes
 div-wholes c = search needs
 
 mul-result : tie.Need-mul-result
-mul-result c = omega (arith, wholes-bound c)
+mul-result c = omega (arith, small c)
 
 sub-result : tie.Need-sub-result
 sub-result c = omega (arith, div-le-self (c .free .result) (c .before .args .n))
 
 mul-result-2 : tie.Need-mul-result-2
-mul-result-2 c = omega (arith, others-bound c)
+mul-result-2 c = omega (arith, small c)
 
 add-result : tie.Need-add-result
-add-result c = omega (arith, wholes-bound c, others-bound c)
+add-result c = omega (arith, small c)
 
 returns : tie.Need-returns
 returns c = rw (← c .free .ensures)

@@ -1,9 +1,6 @@
 -- `output::put_every` meets its contract: nothing where n does not divide k, and else the byte.
 -- Assumes nothing.
-use mathlib.Core.Path.{_≡_}
-use mathlib.Core.List.{[], _∷_}
 use native.Mathlib.Omega.{arith}
-use lib.ListN.{length}
 use borrow.Author.Tests.{eq-eqb, ne-eqb}
 use borrow.Author.Needs.{needs}
 use Rattle.output.specs.Pieces.{every}

@@ -1,0 +1,2 @@
+pub mod Mif
+pub mod Logisim
