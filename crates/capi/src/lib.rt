@@ -7,7 +7,15 @@ ghost use Rattle.output.specs.Outcome.{answerOf};
 ghost use Rattle.format_plain.specs.Binary.{binaryOutcome, paddedIn};
 ghost use Rattle.format_plain.specs.Str.{strOutcome};
 ghost use Rattle.format_plain.specs.Readmem.{readmembOutcome, readmemhOutcome};
+ghost use Rattle.format_list.specs.Separator.{separatorOutcome};
+ghost use Rattle.format_list.specs.CArray.{cArrayOutcome};
+ghost use Rattle.format_list.specs.Groups.{listOutcome};
+ghost use Rattle.format_memory.specs.Mif.{mifOutcome};
+ghost use Rattle.format_memory.specs.Logisim.{logisimOutcome};
+ghost use Rattle.format_dump.specs.Dump.{dumpOutcome};
 ghost use Rattle.capi.specs.Returns.{Returns, flag};
+use format_dump::DumpOptions;
+use format_list::FormatListOptions;
 use output::Export;
 
 // Stores the value of an answer and returns its number.
@@ -79,6 +87,117 @@ pub extern "C" fn riceshoal_format_readmemh(
 {
     give(
         format_plain::format_readmemh(image, bits, width, out),
+        value,
+    )
+}
+
+#[no_mangle]
+pub extern "C" fn riceshoal_format_separator(
+    image: &[u8],
+    bits: usize,
+    radix: usize,
+    separator: &[u8],
+    out: &mut [u8],
+    value: &mut u64,
+) -> u32
+    ensures { λ r. ⌜ Returns (separatorOutcome (now (image .entry)) bits radix (now (separator .entry)) (length (now (out .entry)))) r (now (value .exit)) (now (out .entry)) (now (out .exit)) ⌝ }
+{
+    give(
+        format_list::format_separator(image, bits, radix, separator, out),
+        value,
+    )
+}
+
+#[no_mangle]
+pub extern "C" fn riceshoal_format_c_array(
+    image: &[u8],
+    bits: usize,
+    radix: usize,
+    out: &mut [u8],
+    value: &mut u64,
+) -> u32
+    ensures { λ r. ⌜ Returns (cArrayOutcome (now (image .entry)) bits radix (length (now (out .entry)))) r (now (value .exit)) (now (out .entry)) (now (out .exit)) ⌝ }
+{
+    give(
+        format_list::format_c_array(image, bits, radix, out),
+        value,
+    )
+}
+
+#[no_mangle]
+pub extern "C" fn riceshoal_format_list(
+    image: &[u8],
+    bits: usize,
+    base: usize,
+    digits_per_group: usize,
+    groups_per_group2: usize,
+    before: &[u8],
+    after: &[u8],
+    between: &[u8],
+    between2: &[u8],
+    out: &mut [u8],
+    value: &mut u64,
+) -> u32
+    ensures { λ r. ⌜ Returns (listOutcome (now (image .entry)) bits (record { base = base; «digits_per_group» = «digits_per_group»; «groups_per_group2» = «groups_per_group2» }) (now (before .entry)) (now (after .entry)) (now (between .entry)) (now (between2 .entry)) (length (now (out .entry)))) r (now (value .exit)) (now (out .entry)) (now (out .exit)) ⌝ }
+{
+    let options = FormatListOptions {
+        base,
+        digits_per_group,
+        groups_per_group2,
+    };
+    give(
+        format_list::format_list(image, bits, options, before, after, between, between2, out),
+        value,
+    )
+}
+
+#[no_mangle]
+pub extern "C" fn riceshoal_format_mif(
+    image: &[u8],
+    bits: usize,
+    out: &mut [u8],
+    value: &mut u64,
+) -> u32
+    ensures { λ r. ⌜ Returns (mifOutcome (now (image .entry)) bits (length (now (out .entry)))) r (now (value .exit)) (now (out .entry)) (now (out .exit)) ⌝ }
+{
+    give(format_memory::format_mif(image, bits, out), value)
+}
+
+#[no_mangle]
+pub extern "C" fn riceshoal_format_logisim(
+    image: &[u8],
+    bits: usize,
+    bits_per_chunk: usize,
+    out: &mut [u8],
+    value: &mut u64,
+) -> u32
+    ensures { λ r. ⌜ Returns (logisimOutcome (now (image .entry)) bits «bits_per_chunk» (length (now (out .entry)))) r (now (value .exit)) (now (out .entry)) (now (out .exit)) ⌝ }
+{
+    give(
+        format_memory::format_logisim(image, bits, bits_per_chunk, out),
+        value,
+    )
+}
+
+#[no_mangle]
+pub extern "C" fn riceshoal_format_dump(
+    image: &[u8],
+    bits: usize,
+    digit_bits: usize,
+    byte_bits: usize,
+    bytes_per_line: usize,
+    out: &mut [u8],
+    value: &mut u64,
+) -> u32
+    ensures { λ r. ⌜ Returns (dumpOutcome (now (image .entry)) bits (record { «digit_bits» = «digit_bits»; «byte_bits» = «byte_bits»; «bytes_per_line» = «bytes_per_line» }) (length (now (out .entry)))) r (now (value .exit)) (now (out .entry)) (now (out .exit)) ⌝ }
+{
+    let options = DumpOptions {
+        digit_bits,
+        byte_bits,
+        bytes_per_line,
+    };
+    give(
+        format_dump::format_dump(image, bits, options, out),
         value,
     )
 }

@@ -2,7 +2,7 @@
 -- Assumes nothing.
 use mathlib.Core.Path.{_≡_, refl, sym, ap, _∙_}
 use mathlib.Core.List.{List, [], _∷_, _++_}
-use Prim.Native.Nat.{ℕ, suc, _+_, _<_}
+use Prim.Native.Nat.{ℕ, suc, _+_, _<_, _≤_}
 use native.Mathlib.Nat.{add-zero, add-suc, suc-add}
 use native.Mathlib.Numerals.{add-one}
 use native.Mathlib.Omega.{arith}
@@ -41,3 +41,7 @@ writes-then {a} {b} {l₀} {at = at} p q =
 -- A writer leaves the buffer's length.
 pub writes-length : {t l₀ l₁ : List ℕ} {at r : ℕ} → Writes t l₀ at l₁ r → length l₁ ≡ length l₀
 writes-length p = ap length (p .stored) ∙ simp length-sets
+
+-- A writer leaves room for the text behind its own.
+pub room-then : {t l₀ l₁ : List ℕ} {at r : ℕ} (u : List ℕ) → Writes t l₀ at l₁ r → at + length (t ++ u) ≤ length l₀ → r + length u ≤ length l₁
+room-then {t} u w h = omega (arith, w .next, writes-length w, length-append t u)

@@ -1,0 +1,84 @@
+-- The lengths of the dump's parts, and how many lines it has.
+-- Assumes nothing.
+use mathlib.Core.Path.{_≡_, refl}
+use mathlib.Core.List.{List, [], _∷_}
+use Prim.Native.Nat.{ℕ, _+_, _-_, _*_, _/_, _≤_, _<_, max}
+use native.Mathlib.Nat.{mul-le-mul, mul-le-mul-right, le-div-iff-mul-le, div-le-self, div-mul-le-self}
+use native.Mathlib.Omega.{arith}
+use lib.ListN.{length, length-append}
+use borrow.Author.Tests.{lt-ltb, le-ltb}
+use Rattle.output.specs.Ascii.{ascii}
+use Rattle.output.specs.Digits.{digitCount}
+use Rattle.output.specs.Pieces.{pieces, joined, every}
+use Rattle.output.proofs.Order.{by-order}
+use Rattle.output.proofs.Digits.{number-length, padded-length, count-rises}
+use Rattle.output.proofs.Pieces.{pieces-length}
+use Rattle.output.proofs.Joined.{joined-length, every-length, between-length}
+use Rattle.format_dump.specs.Dump.{dumpDigit, dumpChar, dumpByte, dumpLine, dumpLines, dumpText}
+
+-- A byte has a digit for each w bits, and a space.
+pub byte-length : (bytes : List ℕ) (len w i : ℕ) → length (dumpByte bytes len w i) ≡ 8 / w + 1
+unfolding dumpByte
+byte-length bytes len w i =
+    let digits : ℕ → List ℕ = λ j. dumpDigit bytes len w (i + j * w) ∷ [] in
+    omega (arith, length-append (pieces digits (8 / w)) (ascii " "), pieces-length digits 1 (8 / w) (λ j h. refl))
+
+-- What stands between two bytes, and the bytes of a line in digits.
+abbrev pub gap : ℕ → List ℕ
+gap j = every 4 j (ascii " ")
+
+abbrev pub lineByte : List ℕ → ℕ → ℕ → ℕ → ℕ → List ℕ
+lineByte bytes len w first j = dumpByte bytes len w ((first + j) * 8)
+
+-- A line has its address, its bytes in digits and as characters, and nine characters more.
+line-parts : (bytes : List ℕ) (len w n width first : ℕ)
+    → length (dumpLine bytes len w n width first) ≡ max width (digitCount 16 first) + length (joined gap (lineByte bytes len w first) n) + n + 9
+unfolding dumpLine
+line-parts bytes len w n width first =
+    let chars = pieces-length (λ j. dumpChar bytes len ((first + j) * 8) ∷ []) 1 n (λ j h. refl) in
+    simp (length-append, padded-length, number-length) (omega arith)
+
+-- A line whose address is filled to the digits of the last one.
+pub line-length : (bytes : List ℕ) (len w n first last : ℕ) → first ≤ last
+    → length (dumpLine bytes len w n (digitCount 16 last) first)
+    ≡ digitCount 16 last + ((n - 1) / 4 * 1 + ((n - 1) - (n - 1) / 4) * 0) + n * (8 / w + 2) + 9
+line-length bytes len w n first last l =
+    let parts = line-parts bytes len w n (digitCount 16 last) first in
+    let column = joined-length gap (lineByte bytes len w first) n in
+    let gaps = between-length gap 4 1 0 n (omega arith) (λ k h. every-length 4 k (ascii " ")) in
+    let items = pieces-length (lineByte bytes len w first) (8 / w + 1) n (λ j h. byte-length bytes len w ((first + j) * 8)) in
+    omega (arith, count-rises 16 (omega arith) first last l)
+
+-- Its digits, spaces and characters are at most 10 for each of 64 bytes.
+pub columns-small : (w n : ℕ) → n ≤ 64 → n * (8 / w + 2) ≤ 64 * 10
+columns-small w n h = mul-le-mul {n₂ = 64} {m₂ = 10} h (omega (arith, div-le-self 8 w))
+
+-- The dump of a number of lines, their addresses filled to the digits of the last one.
+pub text-lines : (bytes : List ℕ) (len w n lines address : ℕ) → lines ≡ dumpLines len n → address ≡ digitCount 16 ((lines - 1) * n)
+    → dumpText bytes len w n ≡ pieces (λ k. dumpLine bytes len w n address (k * n)) lines
+unfolding dumpText
+text-lines bytes len w n lines address e f = rw (f, e)
+
+-- Its length, where each line has one length.
+pub text-length : (bytes : List ℕ) (len w n lines address r : ℕ) → lines ≡ dumpLines len n → address ≡ digitCount 16 ((lines - 1) * n)
+    → ((first : ℕ) → first ≤ (lines - 1) * n → length (dumpLine bytes len w n address first) ≡ r)
+    → length (dumpText bytes len w n) ≡ lines * r
+text-length bytes len w n lines address r e f h =
+    rw (text-lines bytes len w n lines address e f)
+    (pieces-length _ r lines (λ k l. h (k * n) (mul-le-mul-right n (omega arith))))
+
+-- There is a line.
+pub lines-some : (len n : ℕ) → 0 < n → 1 ≤ dumpLines len n
+unfolding dumpLines
+lines-some len n h =
+    by-order len 8
+    (λ l. simp (lt-ltb len 8 l) (omega arith))
+    (λ l. simp (le-ltb len 8 l) (le-div-iff-mul-le {k = 8 * n} (omega arith) .1 (omega arith)))
+
+-- The lines reach past the end by at most one.
+pub lines-reach : (len n : ℕ) → 0 < n → dumpLines len n * (8 * n) ≤ len + 8 * n
+unfolding dumpLines
+lines-reach len n h =
+    by-order len 8
+    (λ l. simp (lt-ltb len 8 l) (omega arith))
+    (λ l. simp (le-ltb len 8 l) (omega (arith, div-mul-le-self (len + 8 * (n - 1)) (8 * n))))

@@ -1,0 +1,68 @@
+-- The dump of an image (document 01, module 6; the Rust's `format_dump`, `format_bindump` and `format_hexdump`).
+use mathlib.Core.Bool.{Bool, cond, not, _||_, _&&_}
+use mathlib.Core.List.{List, [], _∷_, _++_}
+use Prim.Native.Nat.{ℕ, _+_, _-_, _*_, _/_}
+use lib.Dec.{eqb, ltb}
+use Rattle.bitvec.specs.Bits.{bitsAt}
+use Rattle.bitvec.specs.Size.{badSize}
+use Rattle.output.specs.declared.Letters.the-variants.{Lower}
+use Rattle.output.specs.Ascii.{ascii}
+use Rattle.output.specs.Digits.{digitCount, numberText, padded}
+use Rattle.output.specs.Pieces.{pieces, joined, every}
+use Rattle.output.specs.Outcome.{Outcome, refused, outside, inRoom}
+use Rattle.digits.specs.Run.{digitAt}
+use Rattle.format_dump.specs.declared.DumpOptions.{DumpOptions}
+
+-- The range of the options: digits of 1 or 4 bits, bytes of 8, and 1 to 64 bytes a line.
+unfoldable pub inRange : DumpOptions → Bool
+inRange o = (eqb (o .«digit_bits») 1 || eqb (o .«digit_bits») 4) && (eqb (o .«byte_bits») 8 && not (outside 1 64 (o .«bytes_per_line»)))
+
+-- A digit of w bits from bit i on: a point where its first bit is at or past the end.
+unfoldable pub dumpDigit : List ℕ → ℕ → ℕ → ℕ → ℕ
+dumpDigit bytes len w i = cond (ltb i len) (digitAt bytes len w i) 46
+
+-- A byte as a character: the four white-space bytes are a space; a byte of 128 or more, any other below the space, and the bar are a
+-- point; 7F is itself.
+unfoldable pub printed : ℕ → ℕ
+printed b =
+    cond (eqb b 32 || (eqb b 9 || (eqb b 13 || eqb b 10))) 32
+    (cond (ltb 127 b || (ltb b 32 || eqb b 124)) 46
+    b)
+
+-- The byte from bit i on as a character: a point where its first bit is at or past the end.
+unfoldable pub dumpChar : List ℕ → ℕ → ℕ → ℕ
+dumpChar bytes len i = cond (ltb i len) (printed (bitsAt bytes len i 8)) 46
+
+-- The byte from bit i on in digits of w bits, and a space.
+unfoldable pub dumpByte : List ℕ → ℕ → ℕ → ℕ → List ℕ
+dumpByte bytes len w i = pieces (λ j. dumpDigit bytes len w (i + j * w) ∷ []) (8 / w) ++ ascii " "
+
+-- A line of n bytes: the address of its first byte, filled with zeros to a width, its bytes in digits, with one more space after each
+-- fourth, and its bytes as characters.
+unfoldable pub dumpLine : List ℕ → ℕ → ℕ → ℕ → ℕ → ℕ → List ℕ
+dumpLine bytes len w n width first =
+    ascii " " ++ (padded 48 width (numberText Lower 16 first)
+    ++ (ascii " | " ++ (joined (λ j. every 4 j (ascii " ")) (λ j. dumpByte bytes len w ((first + j) * 8)) n
+    ++ (ascii "| " ++ (pieces (λ j. dumpChar bytes len ((first + j) * 8) ∷ []) n
+    ++ ascii " |\n")))))
+
+-- The line count, which is not rounded up.
+unfoldable pub dumpLines : ℕ → ℕ → ℕ
+dumpLines len n = cond (ltb len 8) 1 ((len + 8 * (n - 1)) / (8 * n))
+
+-- The dump in digits of w bits and lines of n bytes. The addresses are as wide as the last one.
+unfoldable pub dumpText : List ℕ → ℕ → ℕ → ℕ → List ℕ
+dumpText bytes len w n = pieces (λ k. dumpLine bytes len w n (digitCount 16 ((dumpLines len n - 1) * n)) (k * n)) (dumpLines len n)
+
+unfoldable pub dumpOutcome : List ℕ → ℕ → DumpOptions → ℕ → Outcome
+dumpOutcome bytes len o room =
+    cond (badSize bytes len) (refused 1 0)
+    (cond (not (inRange o)) (refused 2 0)
+    (inRoom room (dumpText bytes len (o .«digit_bits») (o .«bytes_per_line»))))
+
+-- The two presets.
+abbrev pub bindump : DumpOptions
+bindump = record { «digit_bits» = 1; «byte_bits» = 8; «bytes_per_line» = 8 }
+
+abbrev pub hexdump : DumpOptions
+hexdump = record { «digit_bits» = 4; «byte_bits» = 8; «bytes_per_line» = 16 }
