@@ -7,13 +7,17 @@
  *
  *   1  bits is above 16777216 or above 8 times image_len               value 0
  *   2  an option is outside its range                                  value 0
+ *   4  bits is 0 (format_c_array and format_mif alone)                 value 0
  *   8  the text is longer than the output buffer                       value: the length needed
  *
  * To learn the length of a text before there is a buffer for it, call with an out_len of 0: where
- * neither 1 nor 2 applies, the length is stored, with 8, or with 0 where the text is empty.
+ * none of 1, 2 and 4 applies, the length is stored, with 8, or with 0 where the text is empty.
  *
- * The refusals are checked in this order. No pointer may be null, also where its length is 0, and no
- * two of `image`, `out`, `value` and `padded` may overlap.
+ * A string is bytes and their number, at most 256, and is copied as it is; it need not end with a
+ * zero byte. A longer one is refusal 2.
+ *
+ * The refusals are checked in this order. No pointer may be null, also where its length is 0, and
+ * `out`, `value` and `padded` may overlap neither each other nor the image or a string.
  */
 #ifndef RICESHOAL_H
 #define RICESHOAL_H
@@ -43,6 +47,47 @@ uint32_t riceshoal_format_readmemb(const uint8_t *image, size_t image_len, size_
  * whose number of bits is not a multiple of 4 starts with the short digit. */
 uint32_t riceshoal_format_readmemh(const uint8_t *image, size_t image_len, size_t bits,
                                    size_t width, uint8_t *out, size_t out_len, uint64_t *value);
+
+/* The image's bytes as numbers of radix 10, or 16 (0x and two digits), with the separator between
+ * two of them, and a newline after the separator behind each 16th. Refusals 1, 2 and 8. */
+uint32_t riceshoal_format_separator(const uint8_t *image, size_t image_len, size_t bits,
+                                    size_t radix, const uint8_t *separator, size_t separator_len,
+                                    uint8_t *out, size_t out_len, uint64_t *value);
+
+/* An array in C of the image's bytes in radix 10 or 16, 16 on a line, with the address in a comment
+ * before each line. Refusals 1, 2, 4 and 8. */
+uint32_t riceshoal_format_c_array(const uint8_t *image, size_t image_len, size_t bits,
+                                  size_t radix, uint8_t *out, size_t out_len, uint64_t *value);
+
+/* Groups of digits_per_group digits, 1 to 64, of base 2, 4, 8, 16 or 32, the last group filled with
+ * zeros; `before` and `after` stand around them. Between two groups stands `between`, or `between2`
+ * after every groups_per_group2 groups. An empty `between2` is never used: groups_per_group2 may
+ * then be 0 to 65535, else it is 1 to 65535. Refusals 1, 2 and 8. */
+uint32_t riceshoal_format_list(const uint8_t *image, size_t image_len, size_t bits,
+                               size_t base, size_t digits_per_group, size_t groups_per_group2,
+                               const uint8_t *before, size_t before_len,
+                               const uint8_t *after, size_t after_len,
+                               const uint8_t *between, size_t between_len,
+                               const uint8_t *between2, size_t between2_len,
+                               uint8_t *out, size_t out_len, uint64_t *value);
+
+/* A memory initialization file: the image's bytes, each on a line with its address. Refusals 1, 4
+ * and 8. */
+uint32_t riceshoal_format_mif(const uint8_t *image, size_t image_len, size_t bits,
+                              uint8_t *out, size_t out_len, uint64_t *value);
+
+/* An image file of Logisim, v2.0 raw: chunks of bits_per_chunk bits, 1 to 4096, in hexadecimal. A
+ * newline follows a chunk where (bits so far / 8) mod 16 is 0. Refusals 1, 2 and 8. */
+uint32_t riceshoal_format_logisim(const uint8_t *image, size_t image_len, size_t bits,
+                                  size_t bits_per_chunk,
+                                  uint8_t *out, size_t out_len, uint64_t *value);
+
+/* A dump with addresses and characters: digits of 1 or 4 bits (digit_bits), bytes of 8 (byte_bits),
+ * and bytes_per_line 1 to 64. 1, 8, 8 gives the Rust's bindump and 4, 8, 16 its hexdump. The number
+ * of lines is rounded down, so that bits past the last line are not shown. Refusals 1, 2 and 8. */
+uint32_t riceshoal_format_dump(const uint8_t *image, size_t image_len, size_t bits,
+                               size_t digit_bits, size_t byte_bits, size_t bytes_per_line,
+                               uint8_t *out, size_t out_len, uint64_t *value);
 
 #ifdef __cplusplus
 }

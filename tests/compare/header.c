@@ -5,9 +5,16 @@
 
 #include "riceshoal.h"
 
+/* A string and its length, and the output buffer with what stands after it. */
+#define STRING(text) (const uint8_t *)(text), strlen(text)
+#define OUT out, sizeof out, &value
+
 /* The bits 10110 in a byte whose spare bits are set, and a byte more. */
 static const uint8_t image[2] = {0xb7, 0xff};
-static uint8_t out[16];
+/* The images of document 01's table. */
+static const uint8_t bytes[2] = {0x12, 0x0f};
+static const uint8_t digits[2] = {0xab, 0xcf};
+static uint8_t out[128];
 static uint64_t value;
 static uint8_t padded;
 static int wrong;
@@ -24,16 +31,33 @@ static void expect(const char *name, uint32_t number, const char *text)
 
 int main(void)
 {
-    expect("riceshoal_format_binary",
-           riceshoal_format_binary(image, 2, 5, out, 16, &value, &padded), "\xb0");
+    expect("riceshoal_format_binary", riceshoal_format_binary(image, 2, 5, OUT, &padded), "\xb0");
     if (padded != 1) {
         printf("header: riceshoal_format_binary stored %d in padded\n", padded);
         wrong = 1;
     }
-    expect("riceshoal_format_str", riceshoal_format_str(image, 2, 5, 4, out, 16, &value), "b0");
-    expect("riceshoal_format_readmemb",
-           riceshoal_format_readmemb(image, 2, 5, 3, out, 16, &value), "101\n10\n");
-    expect("riceshoal_format_readmemh",
-           riceshoal_format_readmemh(image, 2, 5, 5, out, 16, &value), "16\n");
+    expect("riceshoal_format_str", riceshoal_format_str(image, 2, 5, 4, OUT), "b0");
+    expect("riceshoal_format_readmemb", riceshoal_format_readmemb(image, 2, 5, 3, OUT),
+           "101\n10\n");
+    expect("riceshoal_format_readmemh", riceshoal_format_readmemh(image, 2, 5, 5, OUT), "16\n");
+    expect("riceshoal_format_separator",
+           riceshoal_format_separator(bytes, 2, 16, 10, STRING(" + "), OUT), "18 + 15");
+    expect("riceshoal_format_c_array", riceshoal_format_c_array(bytes, 2, 16, 16, OUT),
+           "const unsigned char data[] = {\n\t/* 0x0 */ 0x12, 0x0f\n};");
+    expect("riceshoal_format_list",
+           riceshoal_format_list(digits, 2, 12, 16, 2, 0, STRING("["), STRING("]"), STRING(","),
+                                 STRING(""), OUT),
+           "[ab,c0]");
+    expect("riceshoal_format_list",
+           riceshoal_format_list(image, 2, 5, 2, 1, 3, STRING("<"), STRING(">"), STRING(","),
+                                 STRING(";\n"), OUT),
+           "<1,0,1;\n1,0>");
+    expect("riceshoal_format_mif", riceshoal_format_mif(bytes, 2, 8, OUT),
+           "DEPTH = 1;\nWIDTH = 8;\nADDRESS_RADIX = HEX;\nDATA_RADIX = HEX;\n\n"
+           "CONTENT\nBEGIN\n 0: 12;\nEND;");
+    expect("riceshoal_format_logisim", riceshoal_format_logisim(bytes, 2, 8, 4, OUT),
+           "v2.0 raw\n1 \n2 ");
+    expect("riceshoal_format_dump", riceshoal_format_dump(bytes, 2, 0, 4, 8, 16, OUT),
+           " 0 | .. .. .. ..  .. .. .. ..  .. .. .. ..  .. .. .. .. | ................ |\n");
     return wrong;
 }

@@ -118,10 +118,7 @@ pub extern "C" fn riceshoal_format_c_array(
 ) -> u32
     ensures { λ r. ⌜ Returns (cArrayOutcome (now (image .entry)) bits radix (length (now (out .entry)))) r (now (value .exit)) (now (out .entry)) (now (out .exit)) ⌝ }
 {
-    give(
-        format_list::format_c_array(image, bits, radix, out),
-        value,
-    )
+    give(format_list::format_c_array(image, bits, radix, out), value)
 }
 
 #[no_mangle]
@@ -196,8 +193,5 @@ pub extern "C" fn riceshoal_format_dump(
         byte_bits,
         bytes_per_line,
     };
-    give(
-        format_dump::format_dump(image, bits, options, out),
-        value,
-    )
+    give(format_dump::format_dump(image, bits, options, out), value)
 }

@@ -6,14 +6,18 @@ use Rattle.bitvec.specs.Bits.{bitAt, bitsAt}
 use Rattle.bitvec.specs.Size.{badSize, ceilDiv}
 use Rattle.output.specs.Ascii.{ascii}
 use Rattle.output.specs.Digits.{digitChar}
-use Rattle.output.specs.Pieces.{pieces}
+use Rattle.output.specs.Pieces.{pieces, leading, joined, every}
 use Rattle.output.specs.Outcome.{text, outside}
 use Rattle.digits.specs.Run.{digitAt, run, shortDigit, hexLine}
 use Rattle.digits.specs.Parts.{partBits}
+use Rattle.digits.specs.Base.{baseBits}
 use Rattle.format_plain.specs.Str.{strText, strOutcome}
 use Rattle.format_plain.specs.Readmem.{lineText, readmemText, readmemOutcome}
+use Rattle.format_list.specs.Bytes.{tooLong}
+use Rattle.format_list.specs.Groups.{groupText, betweenGroups, listText, badList, listOutcome}
+use Rattle.format_memory.specs.Logisim.{chunkText, logisimText, logisimOutcome}
 use Rattle.examples.specs.Table.{Row, rows}
 
 pub table : map (λ (r : Row). r .given) rows ≡ map (λ (r : Row). text (ascii (r .printed))) rows
-unfolding bitAt bitsAt badSize ceilDiv digitChar pieces outside digitAt run shortDigit hexLine partBits strText strOutcome lineText readmemText readmemOutcome
+unfolding bitAt bitsAt badSize ceilDiv digitChar pieces leading joined every outside digitAt run shortDigit hexLine partBits baseBits strText strOutcome lineText readmemText readmemOutcome tooLong groupText betweenGroups listText badList listOutcome chunkText logisimText logisimOutcome
 table = refl

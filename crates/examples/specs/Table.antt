@@ -6,6 +6,9 @@ use Prim.Native.String.{String}
 use Rattle.output.specs.Outcome.{Outcome}
 use Rattle.format_plain.specs.Str.{strOutcome}
 use Rattle.format_plain.specs.Readmem.{readmembOutcome, readmemhOutcome}
+use Rattle.format_list.specs.Groups.{listOutcome}
+use Rattle.format_memory.specs.Logisim.{logisimOutcome}
+use Rattle.output.specs.Ascii.{ascii}
 
 pub record Row : Type 0 where
   pub given : Outcome
@@ -30,4 +33,10 @@ rows =
     ∷ row (readmemhOutcome bits10110 5 5 room) "16\n"
     -- readmemb width 3, bits 10110
     ∷ row (readmembOutcome bits10110 5 3 room) "101\n10\n"
+    -- Logisim chunk 4, byte 12
+    ∷ row (logisimOutcome (0x12 ∷ []) 8 4 room) "v2.0 raw\n1 \n2 "
+    -- list base 16, 2 digits, `[` `,` `]`, second string empty, 12 bits abc
+    ∷ row
+    (listOutcome (0xab ∷ 0xcf ∷ []) 12 (record { base = 16; «digits_per_group» = 2; «groups_per_group2» = 0 }) (ascii "[") (ascii "]") (ascii ",") (ascii "") room)
+    "[ab,c0]"
     ∷ []

@@ -1,10 +1,13 @@
 // Replays recorded answers of the Rust through the library. Standard input is the record, which
-// `tests/compare/run --vectors` made: a line `KIND OPTION BITS IMAGE TEXT` for each answer, numbers
-// in decimal, bytes in hexadecimal, `-` for none. Prints a line with a count for each exporter.
+// `tests/compare/run --vectors` made: for each answer a line `KIND OPTION OPTION2 OPTION3 STRING
+// STRING2 STRING3 STRING4 BITS IMAGE TEXT`, numbers in decimal, bytes in hexadecimal, `-` for none.
+// Prints a line with a count for each exporter.
 ghost use Prim.Native.Nat.{_≤_, _<_};
 ghost use lib.ListN.{length};
 ghost use mathlib.Core.Path.{_≡_};
 ghost use Rattle.io.specs.Counts.{Counts};
+use format_dump::DumpOptions;
+use format_list::FormatListOptions;
 use output::Export;
 
 // What stands in the output buffer before a call.
@@ -14,6 +17,18 @@ const OLD: u8 = 90;
 struct Parsed {
     value: usize,
     next: usize,
+}
+
+// A line of the record: its numbers, and the places of its first string, of its image and of its text.
+struct Line {
+    kind: u8,
+    option: usize,
+    option2: usize,
+    option3: usize,
+    bits: usize,
+    strings: usize,
+    image: usize,
+    text: usize,
 }
 
 // The value of a hexadecimal digit, 16 for any other byte.
@@ -95,19 +110,109 @@ fn bytes(s: &[u8], at: usize, out: &mut [u8]) -> usize
     n
 }
 
-// The exporter that a letter stands for.
-fn export(kind: u8, option: usize, bits: usize, image: &[u8], out: &mut [u8]) -> Export {
-    if kind == b'b' {
-        let answer = format_plain::format_binary(image, bits, out);
+// The line at `at`.
+fn line_at(s: &[u8], at: usize, kind: u8) -> Line {
+    let option = number(s, field(s, at));
+    let option2 = number(s, field(s, option.next));
+    let option3 = number(s, field(s, option2.next));
+    let strings = field(s, option3.next);
+    let bits_at = field(s, field(s, field(s, field(s, strings))));
+    let bits = number(s, bits_at);
+    let image = field(s, bits.next);
+    Line {
+        kind,
+        option: option.value,
+        option2: option2.value,
+        option3: option3.value,
+        bits: bits.value,
+        strings,
+        image,
+        text: field(s, image),
+    }
+}
+
+fn export_separator(s: &[u8], line: Line, image: &[u8], out: &mut [u8]) -> Export {
+    let mut separator = [0u8; 256];
+    let n = bytes(s, line.strings, &mut separator);
+    format_list::format_separator(image, line.bits, line.option, &separator[..n], out)
+}
+
+fn export_list(s: &[u8], line: Line, image: &[u8], out: &mut [u8]) -> Export {
+    let mut before = [0u8; 256];
+    let n = bytes(s, line.strings, &mut before);
+    let at2 = field(s, line.strings);
+    let mut after = [0u8; 256];
+    let n2 = bytes(s, at2, &mut after);
+    let at3 = field(s, at2);
+    let mut between = [0u8; 256];
+    let n3 = bytes(s, at3, &mut between);
+    let mut between2 = [0u8; 256];
+    let n4 = bytes(s, field(s, at3), &mut between2);
+    let options = FormatListOptions {
+        base: line.option,
+        digits_per_group: line.option2,
+        groups_per_group2: line.option3,
+    };
+    format_list::format_list(
+        image,
+        line.bits,
+        options,
+        &before[..n],
+        &after[..n2],
+        &between[..n3],
+        &between2[..n4],
+        out,
+    )
+}
+
+fn export_dump(line: Line, image: &[u8], out: &mut [u8]) -> Export {
+    let options = DumpOptions {
+        digit_bits: line.option,
+        byte_bits: line.option2,
+        bytes_per_line: line.option3,
+    };
+    format_dump::format_dump(image, line.bits, options, out)
+}
+
+// The exporters of an image and at most one number.
+fn export_plain(line: Line, image: &[u8], out: &mut [u8]) -> Export {
+    if line.kind == b'b' {
+        let answer = format_plain::format_binary(image, line.bits, out);
         return answer.export;
     }
-    if kind == b's' {
-        return format_plain::format_str(image, bits, option, out);
+    if line.kind == b's' {
+        return format_plain::format_str(image, line.bits, line.option, out);
     }
-    if kind == b'm' {
-        return format_plain::format_readmemb(image, bits, option, out);
+    if line.kind == b'm' {
+        return format_plain::format_readmemb(image, line.bits, line.option, out);
     }
-    format_plain::format_readmemh(image, bits, option, out)
+    if line.kind == b'h' {
+        return format_plain::format_readmemh(image, line.bits, line.option, out);
+    }
+    if line.kind == b'c' {
+        return format_list::format_c_array(image, line.bits, line.option, out);
+    }
+    if line.kind == b'i' {
+        return format_memory::format_mif(image, line.bits, out);
+    }
+    format_memory::format_logisim(image, line.bits, line.option, out)
+}
+
+// The exporter that a line's letter stands for.
+fn export(s: &[u8], line: Line, out: &mut [u8]) -> Export {
+    let mut buffer = [0u8; 64];
+    let n = bytes(s, line.image, &mut buffer);
+    let image = &buffer[..n];
+    if line.kind == b'p' {
+        return export_separator(s, line, image, out);
+    }
+    if line.kind == b'l' {
+        return export_list(s, line, image, out);
+    }
+    if line.kind == b'd' {
+        return export_dump(line, image, out);
+    }
+    export_plain(line, image, out)
 }
 
 // Fills `out` with old contents, and puts `text` at its front where there is room.
@@ -121,69 +226,43 @@ fn prepare(out: &mut [u8], text: &[u8]) {
 
 // Whether a call into `out` gives the recorded text where there is room, and else refusal 8 with its
 // length and the buffer as it was. `expected` is a buffer as long as `out`.
-fn agrees(
-    kind: u8,
-    option: usize,
-    bits: usize,
-    image: &[u8],
-    text: &[u8],
-    out: &mut [u8],
-    expected: &mut [u8],
-) -> bool {
+fn agrees(s: &[u8], line: Line, text: &[u8], out: &mut [u8], expected: &mut [u8]) -> bool {
     prepare(expected, text);
     prepare(out, b"");
-    let answer = export(kind, option, bits, image, out);
+    let answer = export(s, line, out);
     let number = if text.len() <= out.len() { 0 } else { 8 };
     answer.number() == number && answer.value() == text.len() && check::same(out, expected)
 }
 
 // Whether a call into a room of `room` bytes agrees.
-fn agrees_in(kind: u8, option: usize, bits: usize, image: &[u8], text: &[u8], room: usize) -> bool {
-    let mut out = [0u8; 1100];
-    let mut expected = [0u8; 1100];
-    if 1100 < room {
+fn agrees_in(s: &[u8], line: Line, text: &[u8], room: usize) -> bool {
+    let mut out = [0u8; 4200];
+    let mut expected = [0u8; 4200];
+    if 4200 < room {
         return false;
     }
-    agrees(
-        kind,
-        option,
-        bits,
-        image,
-        text,
-        &mut out[..room],
-        &mut expected[..room],
-    )
+    agrees(s, line, text, &mut out[..room], &mut expected[..room])
 }
 
 // Whether the call agrees in a room that the text fills, in one that is a byte too small (the text's
 // own where it is empty), and in a large one.
-fn agrees_in_rooms(kind: u8, option: usize, bits: usize, image: &[u8], text: &[u8]) -> bool {
+fn agrees_in_rooms(s: &[u8], line: Line, text: &[u8]) -> bool {
     let n = text.len();
-    if !agrees_in(kind, option, bits, image, text, n) {
+    if !agrees_in(s, line, text, n) {
         return false;
     }
-    if !agrees_in(kind, option, bits, image, text, output::free(1, n)) {
+    if !agrees_in(s, line, text, output::free(1, n)) {
         return false;
     }
-    agrees_in(kind, option, bits, image, text, 1100)
+    agrees_in(s, line, text, 4200)
 }
 
 // Whether the recorded answer at `at` is the library's.
 fn replay(s: &[u8], at: usize, kind: u8) -> bool {
-    let option = number(s, field(s, at));
-    let bits = number(s, field(s, option.next));
-    let image_at = field(s, bits.next);
-    let mut image = [0u8; 64];
-    let image_len = bytes(s, image_at, &mut image);
-    let mut text = [0u8; 1024];
-    let text_len = bytes(s, field(s, image_at), &mut text);
-    agrees_in_rooms(
-        kind,
-        option.value,
-        bits.value,
-        &image[..image_len],
-        &text[..text_len],
-    )
+    let line = line_at(s, at, kind);
+    let mut text = [0u8; 4096];
+    let n = bytes(s, line.text, &mut text);
+    agrees_in_rooms(s, line, &text[..n])
 }
 
 // 1 where the line at `at` is one of the exporter's.
@@ -224,10 +303,10 @@ fn report(name: &[u8], s: &[u8], kind: u8) {
 }
 
 // Room for the record. The `ensures` gives the length, which lending the array as a slice needs.
-fn buffer() -> [u8; 262144]
-    ensures { λ r. ⌜ 262144 ≡ length r ⌝ }
+fn buffer() -> [u8; 524288]
+    ensures { λ r. ⌜ 524288 ≡ length r ⌝ }
 {
-    [0; 262144]
+    [0; 524288]
 }
 
 fn main() {
@@ -238,4 +317,10 @@ fn main() {
     report(b"format_str", s, b's');
     report(b"format_readmemb", s, b'm');
     report(b"format_readmemh", s, b'h');
+    report(b"format_separator", s, b'p');
+    report(b"format_c_array", s, b'c');
+    report(b"format_list", s, b'l');
+    report(b"format_mif", s, b'i');
+    report(b"format_logisim", s, b'g');
+    report(b"format_dump", s, b'd');
 }

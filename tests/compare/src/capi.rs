@@ -38,6 +38,73 @@ mod raw {
             out_len: usize,
             value: *mut u64,
         ) -> u32;
+        pub fn riceshoal_format_separator(
+            image: *const u8,
+            image_len: usize,
+            bits: usize,
+            radix: usize,
+            separator: *const u8,
+            separator_len: usize,
+            out: *mut u8,
+            out_len: usize,
+            value: *mut u64,
+        ) -> u32;
+        pub fn riceshoal_format_c_array(
+            image: *const u8,
+            image_len: usize,
+            bits: usize,
+            radix: usize,
+            out: *mut u8,
+            out_len: usize,
+            value: *mut u64,
+        ) -> u32;
+        pub fn riceshoal_format_list(
+            image: *const u8,
+            image_len: usize,
+            bits: usize,
+            base: usize,
+            digits_per_group: usize,
+            groups_per_group2: usize,
+            before: *const u8,
+            before_len: usize,
+            after: *const u8,
+            after_len: usize,
+            between: *const u8,
+            between_len: usize,
+            between2: *const u8,
+            between2_len: usize,
+            out: *mut u8,
+            out_len: usize,
+            value: *mut u64,
+        ) -> u32;
+        pub fn riceshoal_format_mif(
+            image: *const u8,
+            image_len: usize,
+            bits: usize,
+            out: *mut u8,
+            out_len: usize,
+            value: *mut u64,
+        ) -> u32;
+        pub fn riceshoal_format_logisim(
+            image: *const u8,
+            image_len: usize,
+            bits: usize,
+            bits_per_chunk: usize,
+            out: *mut u8,
+            out_len: usize,
+            value: *mut u64,
+        ) -> u32;
+        pub fn riceshoal_format_dump(
+            image: *const u8,
+            image_len: usize,
+            bits: usize,
+            digit_bits: usize,
+            byte_bits: usize,
+            bytes_per_line: usize,
+            out: *mut u8,
+            out_len: usize,
+            value: *mut u64,
+        ) -> u32;
     }
 }
 
@@ -54,7 +121,7 @@ const UNSET: Answer = Answer { code: 0xa5a5_a5a5, value: 0xa5a5_a5a5_a5a5_a5a5, 
 
 pub fn format_binary(image: &[u8], bits: usize, out: &mut [u8]) -> Answer {
     let mut answer = UNSET;
-    // Safe: both slices are lent for the call, and cannot overlap.
+    // Safe: the slices are lent for the call, and what is written overlaps nothing else.
     answer.code = unsafe {
         raw::riceshoal_format_binary(
             image.as_ptr(),
@@ -74,11 +141,16 @@ type WithNumber =
     unsafe extern "C" fn(*const u8, usize, usize, usize, *mut u8, usize, *mut u64) -> u32;
 
 fn with_number(f: WithNumber, image: &[u8], bits: usize, option: usize, out: &mut [u8]) -> Answer {
-    let mut answer = Answer { padded: 0, ..UNSET };
     // Safe: as above.
-    answer.code = unsafe {
-        f(image.as_ptr(), image.len(), bits, option, out.as_mut_ptr(), out.len(), &mut answer.value)
-    };
+    answer(|value| unsafe {
+        f(image.as_ptr(), image.len(), bits, option, out.as_mut_ptr(), out.len(), value)
+    })
+}
+
+/// The answer of a function without `padded`; `call` is given where it stores the value.
+fn answer(call: impl FnOnce(*mut u64) -> u32) -> Answer {
+    let mut answer = Answer { padded: 0, ..UNSET };
+    answer.code = call(&mut answer.value);
     answer
 }
 
@@ -92,4 +164,105 @@ pub fn format_readmemb(image: &[u8], bits: usize, width: usize, out: &mut [u8]) 
 
 pub fn format_readmemh(image: &[u8], bits: usize, width: usize, out: &mut [u8]) -> Answer {
     with_number(raw::riceshoal_format_readmemh, image, bits, width, out)
+}
+
+pub fn format_separator(
+    image: &[u8],
+    bits: usize,
+    radix: usize,
+    separator: &[u8],
+    out: &mut [u8],
+) -> Answer {
+    // Safe: as above.
+    answer(|value| unsafe {
+        raw::riceshoal_format_separator(
+            image.as_ptr(),
+            image.len(),
+            bits,
+            radix,
+            separator.as_ptr(),
+            separator.len(),
+            out.as_mut_ptr(),
+            out.len(),
+            value,
+        )
+    })
+}
+
+pub fn format_c_array(image: &[u8], bits: usize, radix: usize, out: &mut [u8]) -> Answer {
+    with_number(raw::riceshoal_format_c_array, image, bits, radix, out)
+}
+
+/// The numbers are the base, the digits per group and the groups per second group; the strings are
+/// those before, after, between and second between.
+pub fn format_list(
+    image: &[u8],
+    bits: usize,
+    [base, digits_per_group, groups_per_group2]: [usize; 3],
+    [before, after, between, between2]: [&[u8]; 4],
+    out: &mut [u8],
+) -> Answer {
+    // Safe: as above.
+    answer(|value| unsafe {
+        raw::riceshoal_format_list(
+            image.as_ptr(),
+            image.len(),
+            bits,
+            base,
+            digits_per_group,
+            groups_per_group2,
+            before.as_ptr(),
+            before.len(),
+            after.as_ptr(),
+            after.len(),
+            between.as_ptr(),
+            between.len(),
+            between2.as_ptr(),
+            between2.len(),
+            out.as_mut_ptr(),
+            out.len(),
+            value,
+        )
+    })
+}
+
+pub fn format_mif(image: &[u8], bits: usize, out: &mut [u8]) -> Answer {
+    // Safe: as above.
+    answer(|value| unsafe {
+        raw::riceshoal_format_mif(
+            image.as_ptr(),
+            image.len(),
+            bits,
+            out.as_mut_ptr(),
+            out.len(),
+            value,
+        )
+    })
+}
+
+pub fn format_logisim(image: &[u8], bits: usize, bits_per_chunk: usize, out: &mut [u8]) -> Answer {
+    with_number(raw::riceshoal_format_logisim, image, bits, bits_per_chunk, out)
+}
+
+/// The numbers are the bits of a digit, the bits of a byte and the bytes on a line.
+pub fn format_dump(
+    image: &[u8],
+    bits: usize,
+    [digit_bits, byte_bits, bytes_per_line]: [usize; 3],
+    out: &mut [u8],
+) -> Answer {
+    // Safe: as above.
+    answer(|value| unsafe {
+        raw::riceshoal_format_dump(
+            image.as_ptr(),
+            image.len(),
+            bits,
+            digit_bits,
+            byte_bits,
+            bytes_per_line,
+            out.as_mut_ptr(),
+            out.len(),
+            value,
+        )
+    })
 }

@@ -38,12 +38,19 @@ pub trait Exporter {
     fn ours(&self, image: &[u8], bits: usize, out: &mut [u8]) -> Answer;
     fn rust(&self, image: &BitVec) -> Text;
 
+    /// Whether an image of no bits is refused. The Rust then takes 1 from 0 bytes.
+    fn needs_bits(&self) -> bool {
+        false
+    }
+
     /// The number and the value of a refusal that is checked before the room.
     fn refusal(&self, image_len: usize, bits: usize) -> Option<(u32, u64)> {
         if bits > LIMIT || bits.div_ceil(8) > image_len {
             Some((1, 0))
         } else if !self.options_fit() {
             Some((2, 0))
+        } else if bits == 0 && self.needs_bits() {
+            Some((4, 0))
         } else {
             None
         }
@@ -58,6 +65,8 @@ pub struct Family {
     pub small: Exporters,
     /// For images of up to some thousand bits.
     pub middle: Exporters,
+    /// For fewer images of that size: many options, or long strings.
+    pub sparse: Exporters,
     /// For images at the limit.
     pub large: Exporters,
     /// With options outside their range.
@@ -193,7 +202,8 @@ fn show(answer: Answer) -> String {
     format!("{} with {} (padded {})", answer.code, answer.value, answer.padded)
 }
 
-fn cut(bytes: &[u8]) -> String {
+/// The front of some bytes in hexadecimal.
+pub fn cut(bytes: &[u8]) -> String {
     if bytes.len() <= CUT {
         hex(bytes)
     } else {

@@ -7,7 +7,14 @@
 mod capi;
 #[cfg(feature = "library")]
 mod check;
+#[cfg(feature = "library")]
+mod dump;
 mod input;
+#[cfg(feature = "library")]
+mod list;
+#[cfg(feature = "library")]
+mod memory;
+mod options;
 #[cfg(feature = "library")]
 mod plain;
 #[cfg(feature = "library")]
@@ -46,7 +53,8 @@ fn compare() -> ExitCode {
         Ok(Ok(seed)) => seed,
         Ok(Err(_)) => return failed("RICESHOAL_SEED is not a number"),
     };
-    let families = [plain::family(), readmem::family()];
+    let families =
+        [plain::family(), readmem::family(), list::family(), memory::family(), dump::family()];
     let mut checker = check::Checker::new(seed);
     let runs: [(&str, fn(&mut check::Checker, &[check::Family])); 6] = [
         ("every image of 0 to 12 bits", runs::small),

@@ -2,6 +2,7 @@
 
 use crate::capi::{self, Answer};
 use crate::check::{Exporter, Exporters, Family, Text};
+use crate::options::far;
 use reference::diagn::Report;
 use reference::util::BitVec;
 
@@ -82,7 +83,6 @@ fn every() -> Exporters {
 
 pub fn family() -> Family {
     let near = [0, 6, 7, 8, 9, 64, 255, 256, 257, 260];
-    let far = [1 << 32, (1 << 32) + 1, (1 << 32) + 4, 1 << 63, usize::MAX - 1, usize::MAX];
-    let unfit = near.into_iter().chain(far).map(format_str).collect();
-    Family { small: every(), middle: every(), large: every(), unfit }
+    let unfit = near.into_iter().chain(far(4)).map(format_str).collect();
+    Family { small: every(), middle: every(), sparse: vec![], large: every(), unfit }
 }

@@ -2,6 +2,7 @@
 
 use crate::capi::{self, Answer};
 use crate::check::{Exporter, Exporters, Family, Text};
+use crate::options::far;
 use reference::util::{BitVec, FormatReadMemOptions};
 
 /// One of the two formats, in our library and in the Rust.
@@ -51,12 +52,12 @@ fn both(widths: impl IntoIterator<Item = usize>) -> Exporters {
 
 pub fn family() -> Family {
     let wide = [127, 128, 129, 255, 256, 257, 1000, 4095, 4096];
-    let near = [0, 4097, 4098, 8192, 65_535, 65_536, 65_537];
-    let far = [1 << 32, (1 << 32) + 1, (1 << 32) + 8, 1 << 63, usize::MAX - 1, usize::MAX];
+    let near = [0, 4097, 4098, 8192, 65_535, 65_537];
     Family {
         small: both((1..=13).chain([64, 4096])),
         middle: both((1..=64).chain(wide)),
+        sparse: vec![],
         large: both([1, 3, 8, 32, 4095, 4096]),
-        unfit: both(near.into_iter().chain(far)),
+        unfit: both(near.into_iter().chain(far(8))),
     }
 }

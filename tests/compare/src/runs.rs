@@ -38,20 +38,34 @@ pub fn lengths(checker: &mut Checker, families: &[Family]) {
 /// Random images whose length is one less, equal, or one more than whole bytes or lines.
 pub fn boundaries(checker: &mut Checker, families: &[Family]) {
     for exporter in of(families, |family| &family.middle) {
-        for end in ends(&mut checker.rng, exporter.line()) {
-            for bits in end - 1..=end + 1 {
-                let image = Image::random(&mut checker.rng, bits);
-                try_all(checker, &[exporter], &image);
-            }
+        around(checker, exporter, 5);
+    }
+    for exporter in of(families, |family| &family.sparse) {
+        around(checker, exporter, 1);
+    }
+}
+
+/// An exporter on images around each of its ends.
+fn around(checker: &mut Checker, exporter: &dyn Exporter, random: usize) {
+    for end in ends(&mut checker.rng, exporter.line(), random) {
+        for bits in end - 1..=end + 1 {
+            let image = Image::random(&mut checker.rng, bits);
+            try_all(checker, &[exporter], &image);
         }
     }
 }
 
-/// Ends of lines and of bytes, up to some thousand bits.
-fn ends(rng: &mut Rng, line: usize) -> Vec<usize> {
+/// Ends that every exporter is tried with: of the first bit, and of 1, 16, 17, 255, 256 and 257
+/// bytes.
+const ENDS: [usize; 7] = [1, 8, 128, 136, 2040, 2048, 2056];
+
+/// Ends of lines and of bytes, up to some thousand bits; `random` of each sort are random.
+fn ends(rng: &mut Rng, line: usize, random: usize) -> Vec<usize> {
     let lines = 6000 / line + 1;
-    let mut ends: Vec<usize> = (1..=3).map(|n| n * line).collect();
-    for _ in 0..8 {
+    let mut ends: Vec<usize> = ENDS.into();
+    // A line, and a line with the first byte of the next.
+    ends.extend((1..=3).flat_map(|n| [n * line, n * line + 8]));
+    for _ in 0..random {
         ends.push(line * (1 + rng.below(lines)));
         ends.push(8 * (1 + rng.below(750)));
         // The end of a byte that is also the end of a line.
@@ -94,8 +108,8 @@ pub fn limit(checker: &mut Checker, families: &[Family]) {
 const LENT: [usize; 13] =
     [0, 1, 2, 3, 7, 8, 9, 64, 600, LIMIT / 8 - 1, LIMIT / 8, LIMIT / 8 + 1, LIMIT / 4];
 
-/// Refusals 1 and 2, which the Rust does not have. Where both causes hold, 1 is expected; neither
-/// depends on the room.
+/// Refusals 1 and 2, which the Rust does not have. Where more causes hold, the least number is
+/// expected; neither depends on the room.
 pub fn refusals(checker: &mut Checker, families: &[Family]) {
     let fit = of(families, |family| &family.middle);
     let unfit = of(families, |family| &family.unfit);

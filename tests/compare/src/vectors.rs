@@ -1,74 +1,211 @@
 //! A sample of the Rust's answers as lines of text, for a test that cannot run the Rust.
 
 use crate::input::{hex, Image, Rng, RANDOM, SEED};
+use crate::options::{
+    self, group_bits, list_numbers, list_strings, string, LINE, LONGEST, RADIXES,
+};
 use reference::diagn::Report;
 use reference::util::{BitVec, FormatReadMemOptions};
 use std::io::{self, Write};
 
 const HEAD: &str = "\
 # Answers of the Rust of customasm (util/bitvec_format.rs), made by tests/compare/run --vectors.
-# A line is: KIND OPTION BITS IMAGE TEXT
-# KIND     b format_binary, s format_str, m format_readmemb, h format_readmemh
-# OPTION   0 for b, the bits per digit for s, the width for m and h
+# A line is: KIND OPTION OPTION2 OPTION3 STRING STRING2 STRING3 STRING4 BITS IMAGE TEXT
+# KIND     what is called with which options and strings; the others are 0 and -
+#          b format_binary
+#          s format_str        OPTION the bits per digit
+#          m format_readmemb   OPTION the width
+#          h format_readmemh   OPTION the width
+#          p format_separator  OPTION the radix, STRING the separator
+#          c format_c_array    OPTION the radix
+#          l format_list       OPTION the base, OPTION2 the digits per group,
+#                              OPTION3 the groups per second group, STRING what stands before,
+#                              STRING2 after, STRING3 between, STRING4 second between
+#          i format_mif
+#          g format_logisim    OPTION the bits per chunk
+#          d format_dump       OPTION the bits of a digit, OPTION2 of a byte,
+#                              OPTION3 the bytes per line
 # BITS     the length of the image in bits
-# IMAGE    its ceil(BITS / 8) bytes in hexadecimal; what stands past the last bit is random
-# TEXT     the answer's bytes in hexadecimal
-# An IMAGE or TEXT of no bytes is written -
+# IMAGE    its ceil(BITS / 8) bytes, at most 64; what stands past the last bit is random
+# TEXT     the answer's bytes, at most 4000
+# An OPTION and BITS are decimal. A STRING (at most 256 bytes), an IMAGE and a TEXT are bytes in
+# hexadecimal, or - for none.
 ";
+
+/// The most bytes of an image and of a text; the record is shorter than its limit.
+const IMAGE: usize = 64;
+const TEXT: usize = 4000;
+const RECORD: usize = 500_000;
 
 const WIDTHS: [usize; 30] = [
     1, 2, 3, 4, 5, 6, 7, 8, 9, 10, 11, 12, 13, 15, 16, 17, 20, 24, 31, 32, 33, 48, 63, 64, 65, 100,
     127, 128, 257, 4096,
 ];
 
-/// The Rust's function for a kind.
-type Rust = fn(&BitVec, usize) -> Vec<u8>;
+/// The options and strings of a call, and the bits of one line or digit.
+#[derive(Default)]
+struct Call {
+    numbers: [usize; 3],
+    strings: [String; 4],
+    line: usize,
+}
+
+/// Lengths of images that are tried, the least one first; the others are random.
+const LENGTHS: &[usize] =
+    &[0, 1, 7, 8, 9, 127, 128, 129, 135, 136, 137, 255, 256, 257, 500, 510, 511, 512];
+/// The same without 0.
+const NOT_EMPTY: &[usize] = LENGTHS.split_at(1).1;
+/// The least one alone.
+const LEAST: &[usize] = &[0];
+
+/// A kind of lines.
+struct Kind {
+    letter: char,
+    lengths: &'static [usize],
+    rust: fn(&BitVec, &Call) -> Vec<u8>,
+}
+
+struct Record {
+    rng: Rng,
+    text: String,
+}
 
 pub fn print() -> io::Result<()> {
-    let mut out = io::stdout().lock();
-    let mut rng = Rng::new(SEED);
-    out.write_all(HEAD.as_bytes())?;
-    lines(&mut out, &mut rng, 'b', &[0], 300, |image, _| image.format_binary(&mut Report::new()))?;
-    lines(&mut out, &mut rng, 's', &[1, 2, 3, 4, 5], 80, |image, bits_per_digit| {
-        image.format_str(bits_per_digit).into_bytes()
-    })?;
-    lines(&mut out, &mut rng, 'm', &WIDTHS, 10, |image, width| {
-        image.format_readmemb(&FormatReadMemOptions { width }).into_bytes()
-    })?;
-    lines(&mut out, &mut rng, 'h', &WIDTHS, 10, |image, width| {
-        image.format_readmemh(&FormatReadMemOptions { width }).into_bytes()
-    })
+    let mut record = Record { rng: Rng::new(SEED), text: HEAD.to_string() };
+    plain(&mut record);
+    readmem(&mut record);
+    list(&mut record);
+    memory(&mut record);
+    dump(&mut record);
+    assert!(record.text.len() < RECORD);
+    io::stdout().lock().write_all(record.text.as_bytes())
 }
 
-/// `count` lines of one kind for each of the options.
-fn lines(
-    out: &mut impl Write,
-    rng: &mut Rng,
-    kind: char,
-    options: &[usize],
-    count: usize,
-    rust: Rust,
-) -> io::Result<()> {
-    for (place, &option) in options.iter().enumerate() {
-        for n in place * count..(place + 1) * count {
-            let bits = length(rng, n, option);
-            let image = Image::random(rng, bits);
-            let lent = hex(&image.lend(rng, RANDOM, 0));
-            let text = hex(&rust(&image.rust, option));
-            writeln!(out, "{kind} {option} {bits} {lent} {text}")?;
+fn plain(record: &mut Record) {
+    let rust = |image: &BitVec, _: &Call| image.format_binary(&mut Report::new());
+    record.lines(Kind { letter: 'b', lengths: LEAST, rust }, &numbers(&[0]), 300);
+    let rust = |image: &BitVec, call: &Call| image.format_str(call.numbers[0]).into();
+    record.lines(Kind { letter: 's', lengths: LEAST, rust }, &numbers(&[1, 2, 3, 4, 5]), 80);
+}
+
+fn readmem(record: &mut Record) {
+    fn width(call: &Call) -> FormatReadMemOptions {
+        FormatReadMemOptions { width: call.numbers[0] }
+    }
+    let rust = |image: &BitVec, call: &Call| image.format_readmemb(&width(call)).into();
+    record.lines(Kind { letter: 'm', lengths: LEAST, rust }, &numbers(&WIDTHS), 10);
+    let rust = |image: &BitVec, call: &Call| image.format_readmemh(&width(call)).into();
+    record.lines(Kind { letter: 'h', lengths: LEAST, rust }, &numbers(&WIDTHS), 10);
+}
+
+fn list(record: &mut Record) {
+    let rust = |image: &BitVec, call: &Call| {
+        image.format_separator(call.numbers[0], &call.strings[0]).into()
+    };
+    let calls = separators(&mut record.rng);
+    record.lines(Kind { letter: 'p', lengths: LENGTHS, rust }, &calls, 1);
+
+    let rust = |image: &BitVec, call: &Call| image.format_c_array(call.numbers[0]).into();
+    let calls = RADIXES.map(|radix| Call { line: LINE, ..number(radix) });
+    record.lines(Kind { letter: 'c', lengths: NOT_EMPTY, rust }, &calls, 80);
+
+    let rust = |image: &BitVec, call: &Call| {
+        image.format_list(&options::list(call.numbers, &call.strings)).into()
+    };
+    let calls = lists(&mut record.rng);
+    record.lines(Kind { letter: 'l', lengths: LENGTHS, rust }, &calls, 1);
+}
+
+fn memory(record: &mut Record) {
+    let rust = |image: &BitVec, _: &Call| image.format_mif().into();
+    record.lines(Kind { letter: 'i', lengths: NOT_EMPTY, rust }, &numbers(&[0]), 150);
+    let rust = |image: &BitVec, call: &Call| image.format_logisim(call.numbers[0]).into();
+    record.lines(Kind { letter: 'g', lengths: LENGTHS, rust }, &numbers(&WIDTHS), 6);
+}
+
+fn dump(record: &mut Record) {
+    let rust = |image: &BitVec, call: &Call| {
+        let [digit, byte, bytes] = call.numbers;
+        image.format_dump(digit, byte, bytes).into()
+    };
+    let calls: Vec<Call> = (0..176).map(dump_call).collect();
+    record.lines(Kind { letter: 'd', lengths: LENGTHS, rust }, &calls, 1);
+}
+
+/// Both digits with all bytes per line, then with few.
+fn dump_call(k: usize) -> Call {
+    let bytes = if k < 128 { 1 + k / 2 } else { 1 + k / 2 % 16 };
+    Call { numbers: [[1, 4][k % 2], 8, bytes], line: 8 * bytes, ..Call::default() }
+}
+
+fn number(option: usize) -> Call {
+    Call { numbers: [option, 0, 0], line: option, ..Call::default() }
+}
+
+fn numbers(options: &[usize]) -> Vec<Call> {
+    options.iter().map(|&option| number(option)).collect()
+}
+
+fn separators(rng: &mut Rng) -> Vec<Call> {
+    let short = (0..170).map(|k| [0, 1, 1, 2, 2, 3, 9][k % 7]);
+    let lens = short.chain([100, LONGEST - 1, LONGEST, LONGEST]);
+    let calls = lens.enumerate().map(|(k, len)| {
+        let mut call = Call { line: LINE, ..number(RADIXES[k % 2]) };
+        call.strings[0] = string(rng, len);
+        call
+    });
+    calls.collect()
+}
+
+/// Lists with every number of digits in a group, then with few, then with long strings.
+fn lists(rng: &mut Rng) -> Vec<Call> {
+    let mut calls = Vec::new();
+    for k in 0..190 {
+        let digits = if k < 64 { 1 + k } else { 1 + k % 6 };
+        let numbers = list_numbers(k, digits);
+        let strings = list_strings(rng, numbers);
+        calls.push(Call { numbers, strings, line: group_bits(numbers) });
+    }
+    for k in 0..5 {
+        let mut call = Call { numbers: [16, 2, 2], line: 8, ..Call::default() };
+        for (place, text) in call.strings.iter_mut().enumerate() {
+            *text = string(rng, if k == place || k == 4 { LONGEST } else { 1 });
+        }
+        calls.push(call);
+    }
+    calls
+}
+
+impl Record {
+    /// `count` lines of a kind for each of the calls.
+    fn lines(&mut self, kind: Kind, calls: &[Call], count: usize) {
+        for (place, call) in calls.iter().enumerate() {
+            for n in place * count..(place + 1) * count {
+                let bits = length(&mut self.rng, n, call, kind.lengths);
+                let image = Image::random(&mut self.rng, bits);
+                let lent = image.lend(&mut self.rng, RANDOM, 0);
+                let text = (kind.rust)(&image.rust, call);
+                assert!(lent.len() <= IMAGE && text.len() <= TEXT);
+                let numbers = call.numbers.map(|number| number.to_string()).join(" ");
+                let strings = call.strings.each_ref().map(|text| hex(text.as_bytes())).join(" ");
+                let (letter, lent, text) = (kind.letter, hex(&lent), hex(&text));
+                self.text += &format!("{letter} {numbers} {strings} {bits} {lent} {text}\n");
+            }
         }
     }
-    Ok(())
 }
 
-/// The length of the n-th image of a kind: 0 first, then around the ends of bytes and lines, or any.
-fn length(rng: &mut Rng, n: usize, line: usize) -> usize {
+/// The length of the n-th image of a kind: the least first, now and then another of `lengths`, short
+/// and long ones mixed, else around the ends of bytes and lines, or any.
+fn length(rng: &mut Rng, n: usize, call: &Call, lengths: &[usize]) -> usize {
     let most = match n {
-        0 => return 0,
+        0 => return lengths[0],
+        _ if call.strings.iter().any(|text| text.len() > 16) => return 33 + rng.below(24),
+        _ if n % 5 == 4 && lengths.len() > 1 => return lengths[(5 * n + 8) % lengths.len()],
         _ if n % 10 == 9 => 299,
         _ => 120,
     };
-    let unit = [8, line.clamp(1, 299), 1][n % 3];
+    let unit = [8, call.line.clamp(1, 299), 1][n % 3];
     let end = unit * (1 + rng.below((most / unit).max(1)));
-    end - 1 + rng.below(3)
+    (end - 1 + rng.below(3)).max(lengths[0])
 }
