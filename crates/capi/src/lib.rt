@@ -7,9 +7,9 @@ ghost use Rattle.output.specs.Outcome.{answerOf};
 ghost use Rattle.format_plain.specs.Binary.{binaryOutcome, paddedIn};
 ghost use Rattle.format_plain.specs.Str.{strOutcome};
 ghost use Rattle.format_plain.specs.Readmem.{readmembOutcome, readmemhOutcome};
-ghost use Rattle.format_list.specs.Separator.{separatorOutcome};
-ghost use Rattle.format_list.specs.CArray.{cArrayOutcome};
-ghost use Rattle.format_list.specs.Groups.{listOutcome};
+ghost use Rattle.format_bytes.specs.Separator.{separatorOutcome};
+ghost use Rattle.format_bytes.specs.CArray.{cArrayOutcome};
+ghost use Rattle.format_list.specs.List.{listOutcome};
 ghost use Rattle.format_memory.specs.Mif.{mifOutcome};
 ghost use Rattle.format_memory.specs.Logisim.{logisimOutcome};
 ghost use Rattle.format_dump.specs.Dump.{dumpOutcome};
@@ -103,7 +103,7 @@ pub extern "C" fn riceshoal_format_separator(
     ensures { λ r. ⌜ Returns (separatorOutcome (now (image .entry)) bits radix (now (separator .entry)) (length (now (out .entry)))) r (now (value .exit)) (now (out .entry)) (now (out .exit)) ⌝ }
 {
     give(
-        format_list::format_separator(image, bits, radix, separator, out),
+        format_bytes::format_separator(image, bits, radix, separator, out),
         value,
     )
 }
@@ -118,7 +118,7 @@ pub extern "C" fn riceshoal_format_c_array(
 ) -> u32
     ensures { λ r. ⌜ Returns (cArrayOutcome (now (image .entry)) bits radix (length (now (out .entry)))) r (now (value .exit)) (now (out .entry)) (now (out .exit)) ⌝ }
 {
-    give(format_list::format_c_array(image, bits, radix, out), value)
+    give(format_bytes::format_c_array(image, bits, radix, out), value)
 }
 
 #[no_mangle]

@@ -7,14 +7,13 @@ use Rattle.bitvec.specs.Size.{badSize, ceilDiv}
 use Rattle.output.specs.Ascii.{ascii}
 use Rattle.output.specs.Digits.{digitChar}
 use Rattle.output.specs.Pieces.{pieces, leading, joined, every}
-use Rattle.output.specs.Outcome.{text, outside}
+use Rattle.output.specs.Outcome.{text, outside, tooLong}
 use Rattle.digits.specs.Run.{digitAt, run, shortDigit, hexLine}
 use Rattle.digits.specs.Parts.{partBits}
 use Rattle.digits.specs.Base.{baseBits}
 use Rattle.format_plain.specs.Str.{strText, strOutcome}
 use Rattle.format_plain.specs.Readmem.{lineText, readmemText, readmemOutcome}
-use Rattle.format_list.specs.Bytes.{tooLong}
-use Rattle.format_list.specs.Groups.{groupText, betweenGroups, listText, badList, listOutcome}
+use Rattle.format_list.specs.List.{groupText, betweenGroups, listText, badList, listOutcome}
 use Rattle.format_memory.specs.Logisim.{chunkText, logisimText, logisimOutcome}
 use Rattle.examples.specs.Table.{Row, rows}
 

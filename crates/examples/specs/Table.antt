@@ -6,7 +6,7 @@ use Prim.Native.String.{String}
 use Rattle.output.specs.Outcome.{Outcome}
 use Rattle.format_plain.specs.Str.{strOutcome}
 use Rattle.format_plain.specs.Readmem.{readmembOutcome, readmemhOutcome}
-use Rattle.format_list.specs.Groups.{listOutcome}
+use Rattle.format_list.specs.List.{listOutcome}
 use Rattle.format_memory.specs.Logisim.{logisimOutcome}
 use Rattle.output.specs.Ascii.{ascii}
 

@@ -8,13 +8,12 @@ use Prim.Native.Nat.{ℕ, zero, suc, _≤_, _<_}
 use native.Mathlib.Omega.{arith}
 use lib.Dec.{eqb, ltb}
 use lib.ListN.{length}
-use borrow.Author.Tests.{ltb-false, eqb-true, eqb-false, not-false}
-use Rattle.output.specs.Outcome.{outside}
-use Rattle.output.proofs.Outcome.{inside}
+use borrow.Author.Tests.{eqb-true, eqb-false, not-false}
+use Rattle.output.specs.Outcome.{outside, tooLong}
+use Rattle.output.proofs.Outcome.{inside, short}
 use Rattle.digits.specs.Base.{baseBits}
-use Rattle.format_list.specs.declared.groups.FormatListOptions.{FormatListOptions}
-use Rattle.format_list.specs.Bytes.{tooLong}
-use Rattle.format_list.specs.Groups.{badList}
+use Rattle.format_list.specs.declared.FormatListOptions.{FormatListOptions}
+use Rattle.format_list.specs.List.{badList}
 
 -- Of two tests, neither is true.
 neither : (a b : Bool) → a || b ≡ false → (a ≡ false) × (b ≡ false)
@@ -22,10 +21,6 @@ neither a b e = or-eq-false-eq-eq-false-and-eq-false a b .0 e
 
 some : (n : ℕ) → eqb n 0 ≡ false → 1 ≤ n
 some n e = omega (arith, eqb-false n 0 e)
-
-short : (s : List ℕ) → tooLong s ≡ false → length s ≤ 256
-unfolding tooLong
-short s e = ltb-false _ _ e
 
 -- A second string has a place.
 placed : (g : ℕ) (s : List ℕ) → not (eqb (length s) 0) && eqb g 0 ≡ false → 0 < length s → 0 < g

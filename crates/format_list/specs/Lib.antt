@@ -1,4 +1,1 @@
-pub mod Bytes
-pub mod Separator
-pub mod CArray
-pub mod Groups
+pub mod List

@@ -10,7 +10,7 @@ use lib.Dec.{ltb}
 use lib.ListN.{length}
 use borrow.Author.Tests.{lt-ltb, le-ltb, ltb-false}
 use Rattle.output.specs.declared.Export.the-variants.{Text, NoRoom}
-use Rattle.output.specs.Outcome.{text, refused, answerOf, outside, inRoom, Exports}
+use Rattle.output.specs.Outcome.{text, refused, answerOf, outside, tooLong, inRoom, Exports}
 use Rattle.output.specs.Writes.{Writes}
 
 -- An option that is not outside its range is in it.
@@ -19,6 +19,11 @@ unfolding outside
 inside low high option e =
     let f = or-eq-false-eq-eq-false-and-eq-false (ltb option low) (ltb high option) .0 e in
     (ltb-false _ _ (f .0), ltb-false _ _ (f .1))
+
+-- A string that is not too long.
+pub short : (s : List ℕ) → tooLong s ≡ false → length s ≤ 256
+unfolding tooLong
+short s e = ltb-false _ _ e
 
 -- A text that the room holds.
 pub room-enough : (room : ℕ) (t : List ℕ) → length t ≤ room → inRoom room t ≡ text t

@@ -45,6 +45,10 @@ left (refused n v) out = out
 unfoldable pub outside : ℕ → ℕ → ℕ → Bool
 outside low high option = ltb option low || ltb high option
 
+-- So is a string of more than 256 bytes.
+unfoldable pub tooLong : List ℕ → Bool
+tooLong s = ltb 256 (length s)
+
 -- Refusal 8, the last: the text, where the room has a place for each of its bytes.
 abbrev pub inRoom : ℕ → List ℕ → Outcome
 inRoom room t = cond (ltb room (length t)) (refused 8 (length t)) (text t)

@@ -7,7 +7,7 @@ ghost use lib.ListN.{length, replicate};
 ghost use Rattle.output.specs.Digits.{letterTen, digitChar, byteText, digitCount, numberText, padded};
 ghost use Rattle.output.specs.Pieces.{every};
 ghost use Rattle.output.specs.Writes.{Writes};
-ghost use Rattle.output.specs.Outcome.{answerOf, outside};
+ghost use Rattle.output.specs.Outcome.{answerOf, outside, tooLong};
 
 // What an exporter answers: the length of the text, or one of the eight refusals of document 01, in
 // the order of their numbers, with the place or the length that the paper returns with it.
@@ -70,6 +70,13 @@ pub fn outside(low: usize, high: usize, option: usize) -> bool
         return true;
     }
     false
+}
+
+// Whether a string is longer than 256 bytes, which is outside its range.
+pub fn too_long(s: &[u8]) -> bool
+    ensures { λ r. ⌜ r ≡ tooLong (now (s .entry)) ⌝ }
+{
+    256 < s.len()
 }
 
 // The letters of the digits above nine.
