@@ -2,6 +2,7 @@
 use mathlib.Core.Bool.{Bool, cond, not, _||_}
 use mathlib.Core.List.{List, _++_}
 use Prim.Native.Nat.{ℕ}
+use Prim.Native.Char.{code}
 use lib.Dec.{eqb}
 use Rattle.bitvec.specs.Bits.{byteAt}
 use Rattle.bitvec.specs.Size.{ceilDiv}
@@ -22,7 +23,7 @@ byteIn radix b = cond (eqb radix 10) (numberText Lower 10 b) (ascii "0x" ++ byte
 
 -- The comment with the address k, filled with zeros to a width.
 unfoldable pub addressComment : ℕ → ℕ → List ℕ
-addressComment width k = ascii "\t/* 0x" ++ (padded 48 width (numberText Lower 16 k) ++ ascii " */ ")
+addressComment width k = ascii "\t/* 0x" ++ (padded (code "0") width (numberText Lower 16 k) ++ ascii " */ ")
 
 -- How the line of byte k starts: with the newline alone, or with the newline and the comment.
 unfoldable pub lineStart : LineStart → ℕ → List ℕ

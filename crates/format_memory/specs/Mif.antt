@@ -2,6 +2,7 @@
 use mathlib.Core.Bool.{cond}
 use mathlib.Core.List.{List, _++_}
 use Prim.Native.Nat.{ℕ, _-_}
+use Prim.Native.Char.{code}
 use lib.Dec.{eqb}
 use Rattle.bitvec.specs.Bits.{byteAt}
 use Rattle.bitvec.specs.Size.{badSize, ceilDiv}
@@ -14,7 +15,7 @@ use Rattle.output.specs.Outcome.{Outcome, refused, inRoom}
 -- The line of byte k: its address, filled with spaces to a width, and the byte.
 unfoldable pub mifLine : List ℕ → ℕ → ℕ → ℕ → List ℕ
 mifLine bytes len width k =
-    ascii " " ++ (padded 32 width (numberText Upper 16 k) ++ (ascii ": " ++ (byteText Upper (byteAt bytes len k) ++ ascii ";\n")))
+    ascii " " ++ (padded (code " ") width (numberText Upper 16 k) ++ (ascii ": " ++ (byteText Upper (byteAt bytes len k) ++ ascii ";\n")))
 
 -- A heading with the number of bytes, then a line for each of them. The addresses are as wide as the last one.
 unfoldable pub mifText : List ℕ → ℕ → List ℕ

@@ -2,6 +2,7 @@
 use mathlib.Core.Bool.{cond}
 use mathlib.Core.List.{List, [], _∷_, _++_, map}
 use Prim.Native.Nat.{ℕ, zero, suc, _+_, _-_, _/_, _%_}
+use Prim.Native.Char.{code}
 use lib.Dec.{ltb}
 use lib.ListN.{length, replicate}
 use Rattle.output.specs.declared.Letters.{Letters}
@@ -9,12 +10,12 @@ use Rattle.output.specs.declared.Letters.the-variants.{Lower, Upper}
 
 -- The letter that stands for ten: a or A.
 abbrev pub letterTen : Letters → ℕ
-letterTen Lower = 97
-letterTen Upper = 65
+letterTen Lower = code "a"
+letterTen Upper = code "A"
 
 -- The character of a digit below 36: 0 to 9, then the letters.
 unfoldable pub digitChar : Letters → ℕ → ℕ
-digitChar letters d = cond (ltb d 10) (48 + d) (letterTen letters + (d - 10))
+digitChar letters d = cond (ltb d 10) (code "0" + d) (letterTen letters + (d - 10))
 
 -- A byte as two hexadecimal digits.
 unfoldable pub byteText : Letters → ℕ → List ℕ
