@@ -116,10 +116,3 @@ pub padded-length : (fill width : ℕ) (t : List ℕ) → length (padded fill wi
 unfolding padded
 padded-length fill width t =
     length-append (replicate (width - length t) fill) t ∙ rw (length-replicate (width - length t) fill) (omega arith)
-
--- A number that is filled to the digits of a larger one has as many characters: an address in a column as wide as the last one.
-pub column-length : (fill : ℕ) (letters : Letters) (radix : ℕ) → 2 ≤ radix → (n last : ℕ) → n ≤ last
-    → length (padded fill (digitCount radix last) (numberText letters radix n)) ≡ digitCount radix last
-column-length fill letters radix h n last l =
-    padded-length fill (digitCount radix last) (numberText letters radix n)
-    ∙ rw (number-length letters radix n) (omega (arith, count-rises radix h n last l))
