@@ -14,6 +14,7 @@ use Rattle.format_bytes.specs.Bytes.{badRadix, addressComment, lineStart
 abbrev pub addressWidth : ℕ → ℕ
 addressWidth len = digitCount 16 (ceilDiv len 8 - 1)
 
+-- The list of bytes, whose lines start with the comment of their address, within the words of C.
 unfoldable pub cArrayText : ℕ → List ℕ → ℕ → List ℕ
 cArrayText radix bytes len =
     ascii "const unsigned char data[] = {\n" ++ (addressComment (addressWidth len) 0

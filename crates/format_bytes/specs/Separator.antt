@@ -7,6 +7,7 @@ use Rattle.output.specs.Outcome.{Outcome, refused, tooLong, inRoom}
 use Rattle.format_bytes.specs.declared.bytes.LineStart.the-variants.{Newline}
 use Rattle.format_bytes.specs.Bytes.{badRadix, lineStart, byteList}
 
+-- The list of bytes, whose lines start with the newline alone.
 unfoldable pub separatorText : ℕ → List ℕ → List ℕ → ℕ → List ℕ
 separatorText radix separator bytes len = byteList radix separator (lineStart Newline) bytes len
 

@@ -23,11 +23,12 @@ groupText o bytes len k = run bytes len (baseBits (o .base)) (k * groupBits o) (
 unfoldable pub betweenGroups : FormatListOptions → List ℕ → List ℕ → ℕ → List ℕ
 betweenGroups o between between2 k = cond (not (eqb (length between2) 0) && eqb (k % o .«groups_per_group2») 0) between2 between
 
+-- The groups with the strings between them, in as many groups as hold the image, between the strings before and after.
 unfoldable pub listText : FormatListOptions → List ℕ → List ℕ → List ℕ → List ℕ → List ℕ → ℕ → List ℕ
 listText o before after between between2 bytes len =
     before ++ (joined (betweenGroups o between between2) (groupText o bytes len) (ceilDiv len (groupBits o)) ++ after)
 
--- The cause of refusal 2: a base or a number outside its range, or a string that is too long.
+-- The cause of refusal 2: a base or a number outside its range, a second string with no place, or a string that is too long.
 unfoldable pub badList : FormatListOptions → List ℕ → List ℕ → List ℕ → List ℕ → Bool
 badList o before after between between2 =
     eqb (baseBits (o .base)) 0

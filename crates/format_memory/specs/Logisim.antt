@@ -18,6 +18,7 @@ chunkText bytes len i m = hexLine bytes len i m ++ (ascii " " ++ every 16 ((i + 
 abbrev pub chunkAt : List ℕ → ℕ → ℕ → ℕ → List ℕ
 chunkAt bytes len width k = chunkText bytes len (k * width) (partBits len width k)
 
+-- The first line, and the chunks that hold the image.
 unfoldable pub logisimText : List ℕ → ℕ → ℕ → List ℕ
 logisimText bytes len width = ascii "v2.0 raw\n" ++ pieces (chunkAt bytes len width) (ceilDiv len width)
 
