@@ -6,7 +6,7 @@ use mathlib.Core.List.{List}
 use mathlib.Mathlib.Data.Bool.Basic.{or-eq-false-eq-eq-false-and-eq-false}
 use Prim.Native.Nat.{ℕ, _+_, _-_, _*_, _/_, _%_, _<_, _≤_}
 use native.Mathlib.Omega.{arith}
-use native.Mathlib.Nat.{div-add-mod', mod-lt, div-mul-le-self, le-div-iff-mul-le, div-eq-of-lt-le, suc-mul}
+use native.Mathlib.Nat.{div-add-mod', mod-lt, div-mul-le-self, le-div-iff-mul-le, div-lt-iff-lt-mul, div-eq-of-lt-le, mul-le-mul-left, suc-mul}
 use lib.Dec.{ltb}
 use lib.ListN.{length}
 use borrow.Author.Tests.{ltb-false}
@@ -33,6 +33,11 @@ ceil-reach n d = div-mul-le-self (n + (d - 1)) d
 pub ceil-inside : (n d k : ℕ) → 0 < d → k < ceilDiv n d → k * d < n
 unfolding ceilDiv
 ceil-inside n d k h l = omega (arith, le-div-iff-mul-le h .0 l, suc-mul k d)
+
+-- There are no more parts than the whole has units.
+pub ceil-most : (n d : ℕ) → 0 < d → ceilDiv n d ≤ n
+unfolding ceilDiv
+ceil-most n d h = omega (arith, div-lt-iff-lt-mul {x = n + (d - 1)} {y = n + 1} h .1 (omega (arith, mul-le-mul-left n h, suc-mul n d)))
 
 -- A whole number of parts.
 pub ceil-whole : (n d : ℕ) → 0 < d → n % d ≡ 0 → ceilDiv n d ≡ n / d

@@ -5,7 +5,7 @@ use crate::tell::gave;
 use crate::tell::tell;
 use format_dump::DumpOptions;
 
-pub fn hexdump_row() -> u64
+pub(crate) fn hexdump_row() -> u64
     ensures { λ r. ⌜ r ≤ 1 ⌝ }
 {
     let mut out = [OLD; 256];
@@ -23,7 +23,7 @@ pub fn hexdump_row() -> u64
 }
 
 // 7F is printed, a bar is a point, a tab is a space, and the last bit is not shown.
-pub fn one_line_of_129_bits() -> u64
+pub(crate) fn one_line_of_129_bits() -> u64
     ensures { λ r. ⌜ r ≤ 1 ⌝ }
 {
     let mut out = [OLD; 256];
@@ -59,7 +59,7 @@ pub fn one_line_of_129_bits() -> u64
     )
 }
 
-pub fn bindump_of_three_bits() -> u64
+pub(crate) fn bindump_of_three_bits() -> u64
     ensures { λ r. ⌜ r ≤ 1 ⌝ }
 {
     let mut out = [OLD; 256];
@@ -76,7 +76,7 @@ pub fn bindump_of_three_bits() -> u64
     )
 }
 
-pub fn bytes_of_nine_bits() -> u64
+pub(crate) fn bytes_of_nine_bits() -> u64
     ensures { λ r. ⌜ r ≤ 1 ⌝ }
 {
     let mut out = [OLD; 256];

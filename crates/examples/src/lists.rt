@@ -5,7 +5,7 @@ use crate::tell::gave;
 use crate::tell::tell;
 use format_list::FormatListOptions;
 
-pub fn c_array_row() -> u64
+pub(crate) fn c_array_row() -> u64
     ensures { λ r. ⌜ r ≤ 1 ⌝ }
 {
     let mut out = [OLD; 256];
@@ -23,7 +23,7 @@ pub fn c_array_row() -> u64
 }
 
 // The last byte has spare bits that are set.
-pub fn list_row() -> u64
+pub(crate) fn list_row() -> u64
     ensures { λ r. ⌜ r ≤ 1 ⌝ }
 {
     let mut out = [OLD; 256];
@@ -48,7 +48,7 @@ pub fn list_row() -> u64
     )
 }
 
-pub fn second_string() -> u64
+pub(crate) fn second_string() -> u64
     ensures { λ r. ⌜ r ≤ 1 ⌝ }
 {
     let mut out = [OLD; 256];
@@ -73,7 +73,7 @@ pub fn second_string() -> u64
     )
 }
 
-pub fn line_of_sixteen() -> u64
+pub(crate) fn line_of_sixteen() -> u64
     ensures { λ r. ⌜ r ≤ 1 ⌝ }
 {
     let mut out = [OLD; 256];
@@ -91,7 +91,7 @@ pub fn line_of_sixteen() -> u64
     )
 }
 
-pub fn empty_array() -> u64
+pub(crate) fn empty_array() -> u64
     ensures { λ r. ⌜ r ≤ 1 ⌝ }
 {
     let mut out = [OLD; 256];
@@ -102,7 +102,7 @@ pub fn empty_array() -> u64
     )
 }
 
-pub fn radix_before_empty() -> u64
+pub(crate) fn radix_before_empty() -> u64
     ensures { λ r. ⌜ r ≤ 1 ⌝ }
 {
     let mut out = [OLD; 256];
@@ -113,7 +113,7 @@ pub fn radix_before_empty() -> u64
     )
 }
 
-pub fn long_separator() -> u64
+pub(crate) fn long_separator() -> u64
     ensures { λ r. ⌜ r ≤ 1 ⌝ }
 {
     let mut out = [OLD; 256];
@@ -125,7 +125,7 @@ pub fn long_separator() -> u64
     )
 }
 
-pub fn second_string_at_no_place() -> u64
+pub(crate) fn second_string_at_no_place() -> u64
     ensures { λ r. ⌜ r ≤ 1 ⌝ }
 {
     let mut out = [OLD; 256];

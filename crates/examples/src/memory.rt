@@ -4,7 +4,7 @@ use crate::tell::OLD;
 use crate::tell::gave;
 use crate::tell::tell;
 
-pub fn mif_row() -> u64
+pub(crate) fn mif_row() -> u64
     ensures { λ r. ⌜ r ≤ 1 ⌝ }
 {
     let mut out = [OLD; 256];
@@ -21,7 +21,7 @@ pub fn mif_row() -> u64
     )
 }
 
-pub fn logisim_row() -> u64
+pub(crate) fn logisim_row() -> u64
     ensures { λ r. ⌜ r ≤ 1 ⌝ }
 {
     let mut out = [OLD; 256];
@@ -32,7 +32,7 @@ pub fn logisim_row() -> u64
     )
 }
 
-pub fn empty_mif() -> u64
+pub(crate) fn empty_mif() -> u64
     ensures { λ r. ⌜ r ≤ 1 ⌝ }
 {
     let mut out = [OLD; 256];
@@ -43,7 +43,7 @@ pub fn empty_mif() -> u64
     )
 }
 
-pub fn logisim_no_chunk() -> u64
+pub(crate) fn logisim_no_chunk() -> u64
     ensures { λ r. ⌜ r ≤ 1 ⌝ }
 {
     let mut out = [OLD; 256];

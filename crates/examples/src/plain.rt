@@ -5,7 +5,7 @@ use crate::tell::gave;
 use crate::tell::tell;
 
 // The bits 10110 stand in a byte whose spare bits are set.
-pub fn hexstr_row() -> u64
+pub(crate) fn hexstr_row() -> u64
     ensures { λ r. ⌜ r ≤ 1 ⌝ }
 {
     let mut out = [OLD; 256];
@@ -13,7 +13,7 @@ pub fn hexstr_row() -> u64
     tell(b"hexstr, bits 10110", gave(answer, &out, 0, 2, b"b0"))
 }
 
-pub fn readmemh_row() -> u64
+pub(crate) fn readmemh_row() -> u64
     ensures { λ r. ⌜ r ≤ 1 ⌝ }
 {
     let mut out = [OLD; 256];
@@ -24,7 +24,7 @@ pub fn readmemh_row() -> u64
     )
 }
 
-pub fn readmemb_row() -> u64
+pub(crate) fn readmemb_row() -> u64
     ensures { λ r. ⌜ r ≤ 1 ⌝ }
 {
     let mut out = [OLD; 256];
@@ -35,7 +35,7 @@ pub fn readmemb_row() -> u64
     )
 }
 
-pub fn past_the_bytes() -> u64
+pub(crate) fn past_the_bytes() -> u64
     ensures { λ r. ⌜ r ≤ 1 ⌝ }
 {
     let mut out = [OLD; 256];
@@ -46,7 +46,7 @@ pub fn past_the_bytes() -> u64
     )
 }
 
-pub fn past_the_largest() -> u64
+pub(crate) fn past_the_largest() -> u64
     ensures { λ r. ⌜ r ≤ 1 ⌝ }
 {
     let mut out = [OLD; 256];
@@ -57,7 +57,7 @@ pub fn past_the_largest() -> u64
     )
 }
 
-pub fn readmemb_no_width() -> u64
+pub(crate) fn readmemb_no_width() -> u64
     ensures { λ r. ⌜ r ≤ 1 ⌝ }
 {
     let mut out = [OLD; 256];
@@ -68,7 +68,7 @@ pub fn readmemb_no_width() -> u64
     )
 }
 
-pub fn readmemh_no_width() -> u64
+pub(crate) fn readmemh_no_width() -> u64
     ensures { λ r. ⌜ r ≤ 1 ⌝ }
 {
     let mut out = [OLD; 256];
@@ -79,7 +79,7 @@ pub fn readmemh_no_width() -> u64
     )
 }
 
-pub fn readmemh_wide() -> u64
+pub(crate) fn readmemh_wide() -> u64
     ensures { λ r. ⌜ r ≤ 1 ⌝ }
 {
     let mut out = [OLD; 256];
@@ -90,7 +90,7 @@ pub fn readmemh_wide() -> u64
     )
 }
 
-pub fn str_of_six_bits() -> u64
+pub(crate) fn str_of_six_bits() -> u64
     ensures { λ r. ⌜ r ≤ 1 ⌝ }
 {
     let mut out = [OLD; 256];
@@ -101,7 +101,7 @@ pub fn str_of_six_bits() -> u64
     )
 }
 
-pub fn empty_image() -> u64
+pub(crate) fn empty_image() -> u64
     ensures { λ r. ⌜ r ≤ 1 ⌝ }
 {
     let mut out = [OLD; 256];
@@ -110,7 +110,7 @@ pub fn empty_image() -> u64
 }
 
 // Refusal 8 leaves the buffer as it was.
-pub fn no_room() -> u64
+pub(crate) fn no_room() -> u64
     ensures { λ r. ⌜ r ≤ 1 ⌝ }
 {
     let mut out = [OLD; 256];
@@ -122,7 +122,7 @@ pub fn no_room() -> u64
 }
 
 // The last byte is filled with zeros, and the answer says so.
-pub fn binary_padded() -> u64
+pub(crate) fn binary_padded() -> u64
     ensures { λ r. ⌜ r ≤ 1 ⌝ }
 {
     let mut out = [OLD; 256];

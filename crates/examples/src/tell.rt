@@ -4,10 +4,10 @@ ghost use lib.ListN.{length};
 use output::Export;
 
 // What stands in the output buffer before a call.
-pub const OLD: u8 = 90;
+pub(crate) const OLD: u8 = 90;
 
 // Prints whether an example came out, and answers 1 where it did.
-pub fn tell(name: &[u8], ok: bool) -> u64
+pub(crate) fn tell(name: &[u8], ok: bool) -> u64
     ensures { λ r. ⌜ r ≤ 1 ⌝ }
 {
     io::write_all(1, name);
@@ -21,7 +21,7 @@ pub fn tell(name: &[u8], ok: bool) -> u64
 
 // Whether the answer has the number and the value, and the buffer the text at its front and its old
 // contents behind it.
-pub fn gave(answer: Export, out: &[u8; 256], number: u32, value: usize, text: &[u8]) -> bool
+pub(crate) fn gave(answer: Export, out: &[u8; 256], number: u32, value: usize, text: &[u8]) -> bool
     requires { ⌜ length (now text) ≤ 256 ⌝ }
 {
     let mut expected = [OLD; 256];

@@ -17,8 +17,9 @@ use Rattle.output.specs.Pieces.{pieces, every}
 use Rattle.output.proofs.Digits.{number-length, padded-length, count-rises}
 use Rattle.output.proofs.Joined.{joined-length, between-length, every-length}
 use Rattle.format_bytes.specs.declared.bytes.LineStart.the-variants.{Newline, Comment}
-use Rattle.format_bytes.specs.Bytes.{byteIn, addressComment, lineStart, byteList}
-use Rattle.format_bytes.specs.CArray.{addressWidth, cArrayText}
+use Rattle.format_bytes.specs.Bytes.{byteIn, byteList}
+use Rattle.format_bytes.specs.CArray.{addressComment, addressWidth, cArrayText}
+use Rattle.format_bytes.specs.Start.{lineStart}
 
 -- A byte in radix 10 has its digits.
 pub decimal-length : (b : ℕ) → length (byteIn 10 b) ≡ digitCount 10 b
@@ -37,11 +38,9 @@ comment-length width k = simp (length-append, padded-length, number-length) (ome
 
 -- A line starts with a newline, and where it has a comment with that too.
 pub newline-length : (k : ℕ) → length (lineStart Newline k) ≡ 1
-unfolding lineStart
 newline-length k = refl
 
 pub start-length : (width k : ℕ) → length (lineStart (Comment width) k) ≡ length (addressComment width k) + 1
-unfolding lineStart
 start-length width k = length-append (ascii "\n") (addressComment width k) ∙ omega arith
 
 -- The list: its bytes and what stands between them, where all lines start with texts of one length.

@@ -2,16 +2,13 @@
 use mathlib.Core.Bool.{Bool, cond, not, _||_}
 use mathlib.Core.List.{List, _++_}
 use Prim.Native.Nat.{ℕ}
-use Prim.Native.Char.{code}
 use lib.Dec.{eqb}
 use Rattle.bitvec.specs.Bits.{byteAt}
 use Rattle.bitvec.specs.Size.{ceilDiv}
 use Rattle.output.specs.declared.Letters.the-variants.{Lower}
 use Rattle.output.specs.Ascii.{ascii}
-use Rattle.output.specs.Digits.{byteText, numberText, padded}
+use Rattle.output.specs.Digits.{byteText, numberText}
 use Rattle.output.specs.Pieces.{joined, every}
-use Rattle.format_bytes.specs.declared.bytes.LineStart.{LineStart}
-use Rattle.format_bytes.specs.declared.bytes.LineStart.the-variants.{Newline, Comment}
 
 -- A radix other than 10 and 16 is outside its range.
 unfoldable pub badRadix : ℕ → Bool
@@ -21,16 +18,8 @@ badRadix radix = not (eqb radix 10 || eqb radix 16)
 unfoldable pub byteIn : ℕ → ℕ → List ℕ
 byteIn radix b = cond (eqb radix 10) (numberText Lower 10 b) (ascii "0x" ++ byteText Lower b)
 
--- The comment with the address k, filled with zeros to a width.
-unfoldable pub addressComment : ℕ → ℕ → List ℕ
-addressComment width k = ascii "\t/* 0x" ++ (padded (code "0") width (numberText Lower 16 k) ++ ascii " */ ")
-
--- How the line of byte k starts: with the newline alone, or with the newline and the comment.
-unfoldable pub lineStart : LineStart → ℕ → List ℕ
-lineStart Newline k = ascii "\n"
-lineStart (Comment width) k = ascii "\n" ++ addressComment width k
-
--- The image's bytes with a separator between each two, and a new line after each sixteenth.
+-- The image's bytes with a separator between each two and sixteen on a line: behind the separator stands start k, with which the line
+-- of byte k starts.
 unfoldable pub byteList : ℕ → List ℕ → (ℕ → List ℕ) → List ℕ → ℕ → List ℕ
 byteList radix separator start bytes len =
     joined (λ k. separator ++ every 16 k (start k)) (λ k. byteIn radix (byteAt bytes len k)) (ceilDiv len 8)

@@ -2,23 +2,28 @@
 use mathlib.Core.Bool.{cond}
 use mathlib.Core.List.{List, _++_}
 use Prim.Native.Nat.{ℕ, _-_}
+use Prim.Native.Char.{code}
 use lib.Dec.{eqb}
 use Rattle.bitvec.specs.Size.{badSize, ceilDiv}
+use Rattle.output.specs.declared.Letters.the-variants.{Lower}
 use Rattle.output.specs.Ascii.{ascii}
-use Rattle.output.specs.Digits.{digitCount}
+use Rattle.output.specs.Digits.{digitCount, numberText, padded}
 use Rattle.output.specs.Outcome.{Outcome, refused, inRoom}
-use Rattle.format_bytes.specs.declared.bytes.LineStart.the-variants.{Comment}
-use Rattle.format_bytes.specs.Bytes.{badRadix, addressComment, lineStart, byteList}
+use Rattle.format_bytes.specs.Bytes.{badRadix, byteList}
+
+-- The comment with the address k, filled with zeros to a width.
+unfoldable pub addressComment : ℕ → ℕ → List ℕ
+addressComment width k = ascii "\t/* 0x" ++ (padded (code "0") width (numberText Lower 16 k) ++ ascii " */ ")
 
 -- The addresses are as wide as the last one.
 abbrev pub addressWidth : ℕ → ℕ
 addressWidth len = digitCount 16 (ceilDiv len 8 - 1)
 
--- The list of bytes, whose lines start with the comment of their address, within the words of C.
+-- The list of bytes within the words of C, each line behind the comment with its address.
 unfoldable pub cArrayText : ℕ → List ℕ → ℕ → List ℕ
 cArrayText radix bytes len =
     ascii "const unsigned char data[] = {\n" ++ (addressComment (addressWidth len) 0
-    ++ (byteList radix (ascii ", ") (lineStart (Comment (addressWidth len))) bytes len
+    ++ (byteList radix (ascii ", ") (λ k. ascii "\n" ++ addressComment (addressWidth len) k) bytes len
     ++ ascii "\n};"))
 
 unfoldable pub cArrayOutcome : List ℕ → ℕ → ℕ → ℕ → Outcome

@@ -3,13 +3,12 @@ use mathlib.Core.Bool.{cond, _||_}
 use mathlib.Core.List.{List}
 use Prim.Native.Nat.{ℕ}
 use Rattle.bitvec.specs.Size.{badSize}
+use Rattle.output.specs.Ascii.{ascii}
 use Rattle.output.specs.Outcome.{Outcome, refused, tooLong, inRoom}
-use Rattle.format_bytes.specs.declared.bytes.LineStart.the-variants.{Newline}
-use Rattle.format_bytes.specs.Bytes.{badRadix, lineStart, byteList}
+use Rattle.format_bytes.specs.Bytes.{badRadix, byteList}
 
--- The list of bytes, whose lines start with the newline alone.
 unfoldable pub separatorText : ℕ → List ℕ → List ℕ → ℕ → List ℕ
-separatorText radix separator bytes len = byteList radix separator (lineStart Newline) bytes len
+separatorText radix separator bytes len = byteList radix separator (λ k. ascii "\n") bytes len
 
 unfoldable pub separatorOutcome : List ℕ → ℕ → ℕ → List ℕ → ℕ → Outcome
 separatorOutcome bytes len radix separator room =

@@ -7,7 +7,9 @@ ghost use Rattle.bitvec.specs.Bits.{byteAt};
 ghost use Rattle.bitvec.specs.Size.{ceilDiv};
 ghost use Rattle.output.specs.Pieces.{pieces, leading, every};
 ghost use Rattle.output.specs.Writes.{Writes};
-ghost use Rattle.format_bytes.specs.Bytes.{badRadix, byteIn, addressComment, lineStart, byteList};
+ghost use Rattle.format_bytes.specs.Bytes.{badRadix, byteIn, byteList};
+ghost use Rattle.format_bytes.specs.CArray.{addressComment};
+ghost use Rattle.format_bytes.specs.Start.{lineStart};
 use bitvec::BitOffset;
 use output::Letters;
 
@@ -19,7 +21,7 @@ pub enum LineStart {
 }
 
 // Whether a radix is outside its range.
-pub fn bad_radix(radix: usize) -> bool
+pub(crate) fn bad_radix(radix: usize) -> bool
     ensures { λ r. ⌜ r ≡ badRadix radix ⌝ }
 {
     if radix == 10 {
@@ -56,7 +58,7 @@ fn bytes_length(image: &[u8], bits: usize, radix: usize, count: usize) -> usize
 
 // The length of the list of `count` bytes whose separator has the length `separator` and whose lines
 // start with texts of the length `start`.
-pub fn list_length(
+pub(crate) fn list_length(
     image: &[u8],
     bits: usize,
     radix: usize,
@@ -84,7 +86,7 @@ fn put_byte_in(out: &mut [u8], at: usize, radix: usize, byte: u8) -> usize
 }
 
 // Stores the comment with the address `k`.
-pub fn put_comment(out: &mut [u8], at: usize, width: usize, k: usize) -> usize
+pub(crate) fn put_comment(out: &mut [u8], at: usize, width: usize, k: usize) -> usize
     requires { ⌜ at + length (addressComment width k) ≤ length (now out) ⌝ }
     ensures { λ r. ⌜ Writes (addressComment width k) (now (out .entry)) at (now (out .exit)) r ⌝ }
 {
@@ -131,7 +133,7 @@ fn put_between(out: &mut [u8], at: usize, separator: &[u8], start: LineStart, k:
 }
 
 // Stores the list of `count` bytes.
-pub fn put_list(
+pub(crate) fn put_list(
     out: &mut [u8],
     at: usize,
     image: &[u8],

@@ -11,7 +11,7 @@ use Rattle.output.specs.Ascii.{ascii}
 use Rattle.output.specs.Digits.{digitCount}
 use Rattle.output.specs.Pieces.{pieces, joined, every}
 use Rattle.output.proofs.Order.{by-order}
-use Rattle.output.proofs.Digits.{number-length, padded-length, count-rises}
+use Rattle.output.proofs.Digits.{number-length, padded-length}
 use Rattle.output.proofs.Pieces.{pieces-length}
 use Rattle.output.proofs.Joined.{joined-length, every-length, between-length}
 use Rattle.format_dump.specs.Dump.{dumpDigit, dumpChar, dumpByte, dumpLine, dumpLines, dumpText}
@@ -38,16 +38,16 @@ line-parts bytes len w n width first =
     let chars = pieces-length (λ j. dumpChar bytes len ((first + j) * 8) ∷ []) 1 n (λ j h. refl) in
     simp (length-append, padded-length, number-length) (omega arith)
 
--- A line whose address is filled to the digits of the last one.
-pub line-length : (bytes : List ℕ) (len w n first last : ℕ) → first ≤ last
-    → length (dumpLine bytes len w n (digitCount 16 last) first)
-    ≡ digitCount 16 last + ((n - 1) / 4 * 1 + ((n - 1) - (n - 1) / 4) * 0) + n * (8 / w + 2) + 9
-line-length bytes len w n first last l =
-    let parts = line-parts bytes len w n (digitCount 16 last) first in
+-- A line whose address is no longer than the width that it is filled to.
+pub line-length : (bytes : List ℕ) (len w n width first : ℕ) → digitCount 16 first ≤ width
+    → length (dumpLine bytes len w n width first)
+    ≡ width + ((n - 1) / 4 * 1 + ((n - 1) - (n - 1) / 4) * 0) + n * (8 / w + 2) + 9
+line-length bytes len w n width first l =
+    let parts = line-parts bytes len w n width first in
     let column = joined-length gap (lineByte bytes len w first) n in
     let gaps = between-length gap 4 1 0 n (omega arith) (λ k h. every-length 4 k (ascii " ")) in
     let items = pieces-length (lineByte bytes len w first) (8 / w + 1) n (λ j h. byte-length bytes len w ((first + j) * 8)) in
-    omega (arith, count-rises 16 (omega arith) first last l)
+    omega arith
 
 -- Its digits, spaces and characters are at most 10 for each of 64 bytes.
 pub columns-small : (w n : ℕ) → n ≤ 64 → n * (8 / w + 2) ≤ 64 * 10

@@ -172,10 +172,10 @@ fn put_char_column(
     next
 }
 
-// The length of a line of `count` bytes whose address has `address` digits.
+// The length of a line of `count` bytes whose address is filled to `address` digits.
 fn line_length(width: usize, count: usize, address: usize) -> usize
-    requires { ⌜ (0 < width) × (width ≤ 4) × (count ≤ 64) × (address < 2 ^ 16) ⌝ }
-    ensures { λ r. ⌜ ((bytes : List ℕ) (len first last : ℕ) → first ≤ last → address ≡ digitCount 16 last → length (dumpLine bytes len width count address first) ≡ r) ⌝ }
+    requires { ⌜ (0 < width) × (width ≤ 4) × (count ≤ 64) × (1 ≤ address) × (address < 2 ^ 16) ⌝ }
+    ensures { λ r. ⌜ ((bytes : List ℕ) (len first : ℕ) → digitCount 16 first ≤ address → length (dumpLine bytes len width count address first) ≡ r) ⌝ }
 {
     let gaps = output::between_length(count, 4, 1, 0);
     address + gaps + count * (8 / width + 2) + 9

@@ -11,7 +11,7 @@ use borrow.Author.Tests.{eq-eqb, ne-eqb}
 use Rattle.bitvec.specs.Size.{ceilDiv}
 use Rattle.output.specs.Pieces.{pieces, leading, joined}
 use Rattle.output.proofs.Pieces.{pieces-length}
-use Rattle.output.proofs.Joined.{joined-length}
+use Rattle.output.proofs.Joined.{joined-length, either-length}
 use Rattle.digits.specs.Base.{baseBits}
 use Rattle.digits.proofs.Run.{run-length}
 use Rattle.format_list.specs.declared.FormatListOptions.{FormatListOptions}
@@ -54,8 +54,4 @@ first-length o between between2 k h = simp (eq-eqb (length between2) 0 h) (same 
 pub second-length : (o : FormatListOptions) (between between2 : List ℕ) (k : ℕ) → (length between2 ≡ 0 → ⊥)
     → length (betweenGroups o between between2 k) ≡ cond (eqb (k % o .«groups_per_group2») 0) (length between2) (length between)
 unfolding betweenGroups
-second-length o between between2 k h = simp (ne-eqb (length between2) 0 h) (go (eqb (k % o .«groups_per_group2») 0))
-  where
-    go : (b : Bool) → length (cond b between2 between) ≡ cond b (length between2) (length between)
-    go true = refl
-    go false = refl
+second-length o between between2 k h = simp (ne-eqb (length between2) 0 h) (either-length (eqb (k % o .«groups_per_group2») 0) between2 between)

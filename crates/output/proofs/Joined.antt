@@ -41,14 +41,15 @@ joined-length between item (suc n) =
     let items = length-append (pieces item n) (item n) in
     omega (arith, joined-length between item n)
 
+-- The length of the one text or the other.
+pub either-length : (b : Bool) (s t : List ℕ) → length (cond b s t) ≡ cond b (length s) (length t)
+either-length true s t = refl
+either-length false s t = refl
+
 -- A text at each place that n divides has its own length there and else none.
 pub every-length : (n k : ℕ) (t : List ℕ) → length (every n k t) ≡ cond (eqb (k % n) 0) (length t) 0
 unfolding every
-every-length n k t = go (eqb (k % n) 0)
-  where
-    go : (b : Bool) → length (cond b t []) ≡ cond b (length t) 0
-    go true = refl
-    go false = refl
+every-length n k t = either-length (eqb (k % n) 0) t []
 
 -- The quotient grows by one where the divisor divides.
 quotient-next : (n d : ℕ) → 0 < d → (n + 1) / d ≡ n / d + cond (eqb ((n + 1) % d) 0) 1 0

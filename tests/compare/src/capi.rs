@@ -119,9 +119,30 @@ pub struct Answer {
 /// An answer before the call, so that a value that is not stored is seen.
 const UNSET: Answer = Answer { code: 0xa5a5_a5a5, value: 0xa5a5_a5a5_a5a5_a5a5, padded: 0xa5 };
 
+/// The answer of a function of the library, which is lent the image, its options and the output
+/// buffer.
+macro_rules! call {
+    ($function:ident($image:ident, $bits:ident $(, $option:expr)* ; $out:ident)) => {{
+        let mut answer = Answer { padded: 0, ..UNSET };
+        // Safe: the slices are lent for the call, and what is written overlaps nothing else.
+        answer.code = unsafe {
+            raw::$function(
+                $image.as_ptr(),
+                $image.len(),
+                $bits,
+                $($option,)*
+                $out.as_mut_ptr(),
+                $out.len(),
+                &mut answer.value,
+            )
+        };
+        answer
+    }};
+}
+
 pub fn format_binary(image: &[u8], bits: usize, out: &mut [u8]) -> Answer {
     let mut answer = UNSET;
-    // Safe: the slices are lent for the call, and what is written overlaps nothing else.
+    // Safe: as above.
     answer.code = unsafe {
         raw::riceshoal_format_binary(
             image.as_ptr(),
@@ -136,34 +157,16 @@ pub fn format_binary(image: &[u8], bits: usize, out: &mut [u8]) -> Answer {
     answer
 }
 
-/// A function of an image, one number and the output buffer.
-type WithNumber =
-    unsafe extern "C" fn(*const u8, usize, usize, usize, *mut u8, usize, *mut u64) -> u32;
-
-fn with_number(f: WithNumber, image: &[u8], bits: usize, option: usize, out: &mut [u8]) -> Answer {
-    // Safe: as above.
-    answer(|value| unsafe {
-        f(image.as_ptr(), image.len(), bits, option, out.as_mut_ptr(), out.len(), value)
-    })
-}
-
-/// The answer of a function without `padded`; `call` is given where it stores the value.
-fn answer(call: impl FnOnce(*mut u64) -> u32) -> Answer {
-    let mut answer = Answer { padded: 0, ..UNSET };
-    answer.code = call(&mut answer.value);
-    answer
-}
-
 pub fn format_str(image: &[u8], bits: usize, bits_per_digit: usize, out: &mut [u8]) -> Answer {
-    with_number(raw::riceshoal_format_str, image, bits, bits_per_digit, out)
+    call!(riceshoal_format_str(image, bits, bits_per_digit; out))
 }
 
 pub fn format_readmemb(image: &[u8], bits: usize, width: usize, out: &mut [u8]) -> Answer {
-    with_number(raw::riceshoal_format_readmemb, image, bits, width, out)
+    call!(riceshoal_format_readmemb(image, bits, width; out))
 }
 
 pub fn format_readmemh(image: &[u8], bits: usize, width: usize, out: &mut [u8]) -> Answer {
-    with_number(raw::riceshoal_format_readmemh, image, bits, width, out)
+    call!(riceshoal_format_readmemh(image, bits, width; out))
 }
 
 pub fn format_separator(
@@ -173,24 +176,12 @@ pub fn format_separator(
     separator: &[u8],
     out: &mut [u8],
 ) -> Answer {
-    // Safe: as above.
-    answer(|value| unsafe {
-        raw::riceshoal_format_separator(
-            image.as_ptr(),
-            image.len(),
-            bits,
-            radix,
-            separator.as_ptr(),
-            separator.len(),
-            out.as_mut_ptr(),
-            out.len(),
-            value,
-        )
-    })
+    let (string, len) = parts(separator);
+    call!(riceshoal_format_separator(image, bits, radix, string, len; out))
 }
 
 pub fn format_c_array(image: &[u8], bits: usize, radix: usize, out: &mut [u8]) -> Answer {
-    with_number(raw::riceshoal_format_c_array, image, bits, radix, out)
+    call!(riceshoal_format_c_array(image, bits, radix; out))
 }
 
 /// The numbers are the base, the digits per group and the groups per second group; the strings are
@@ -198,50 +189,22 @@ pub fn format_c_array(image: &[u8], bits: usize, radix: usize, out: &mut [u8]) -
 pub fn format_list(
     image: &[u8],
     bits: usize,
-    [base, digits_per_group, groups_per_group2]: [usize; 3],
-    [before, after, between, between2]: [&[u8]; 4],
+    [base, digits, groups]: [usize; 3],
+    strings: [&[u8]; 4],
     out: &mut [u8],
 ) -> Answer {
-    // Safe: as above.
-    answer(|value| unsafe {
-        raw::riceshoal_format_list(
-            image.as_ptr(),
-            image.len(),
-            bits,
-            base,
-            digits_per_group,
-            groups_per_group2,
-            before.as_ptr(),
-            before.len(),
-            after.as_ptr(),
-            after.len(),
-            between.as_ptr(),
-            between.len(),
-            between2.as_ptr(),
-            between2.len(),
-            out.as_mut_ptr(),
-            out.len(),
-            value,
-        )
-    })
+    let [(s, n), (s2, n2), (s3, n3), (s4, n4)] = strings.map(parts);
+    call!(riceshoal_format_list(
+        image, bits, base, digits, groups, s, n, s2, n2, s3, n3, s4, n4; out
+    ))
 }
 
 pub fn format_mif(image: &[u8], bits: usize, out: &mut [u8]) -> Answer {
-    // Safe: as above.
-    answer(|value| unsafe {
-        raw::riceshoal_format_mif(
-            image.as_ptr(),
-            image.len(),
-            bits,
-            out.as_mut_ptr(),
-            out.len(),
-            value,
-        )
-    })
+    call!(riceshoal_format_mif(image, bits; out))
 }
 
 pub fn format_logisim(image: &[u8], bits: usize, bits_per_chunk: usize, out: &mut [u8]) -> Answer {
-    with_number(raw::riceshoal_format_logisim, image, bits, bits_per_chunk, out)
+    call!(riceshoal_format_logisim(image, bits, bits_per_chunk; out))
 }
 
 /// The numbers are the bits of a digit, the bits of a byte and the bytes on a line.
@@ -251,18 +214,10 @@ pub fn format_dump(
     [digit_bits, byte_bits, bytes_per_line]: [usize; 3],
     out: &mut [u8],
 ) -> Answer {
-    // Safe: as above.
-    answer(|value| unsafe {
-        raw::riceshoal_format_dump(
-            image.as_ptr(),
-            image.len(),
-            bits,
-            digit_bits,
-            byte_bits,
-            bytes_per_line,
-            out.as_mut_ptr(),
-            out.len(),
-            value,
-        )
-    })
+    call!(riceshoal_format_dump(image, bits, digit_bits, byte_bits, bytes_per_line; out))
+}
+
+/// A string as C has it.
+fn parts(string: &[u8]) -> (*const u8, usize) {
+    (string.as_ptr(), string.len())
 }

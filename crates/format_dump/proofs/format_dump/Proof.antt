@@ -11,7 +11,8 @@ use borrow.Author.Tests.{not-true, not-false}
 use borrow.Author.Needs.{needs}
 use Rattle.bitvec.specs.Size.{badSize}
 use Rattle.bitvec.proofs.Size.{size-good}
-use Rattle.output.proofs.Digits.{count-small}
+use Rattle.output.specs.Digits.{digitCount}
+use Rattle.output.proofs.Digits.{count-small, count-some, count-rises}
 use Rattle.output.proofs.Outcome.{exports-text, exports-no-room}
 use Rattle.digits.proofs.Parts.{stride}
 use Rattle.format_dump.specs.Dump.{inRange, dumpText, dumpOutcome}
@@ -62,17 +63,19 @@ last-small c =
 address-small : (c : tie.After-digit-count) → c .digit-count .result ≤ 22
 address-small c = omega (arith, c .digit-count .ensures, count-small 16 (omega arith) 21 (last (c .before)) (last-small (c .before)))
 
+-- no address is longer than the last
+column : (c : tie.After-digit-count) (first : ℕ) → first ≤ last (c .before) → digitCount 16 first ≤ c .digit-count .result
+column c first l = omega (arith, c .digit-count .ensures, count-rises 16 (omega arith) first (last (c .before)) l)
+
 line-small : (c : tie.After-line-length) → c .line-length .result ≤ 1000
 line-small c =
     let counted = c .before in
     let ranges = counted .before .before in
-    let b = bounds ranges in
     let w = width ranges in
     let n = count ranges in
-    let end = last (counted .before) in
-    let digits = counted .digit-count .ensures in
-    let line = rw digits at (c .line-length .ensures [] 0 0 end (omega arith) digits) in
-    omega (arith, line-length [] 0 w n 0 end (omega arith), columns-small w n (b .3), address-small counted)
+    let zero = column counted 0 (omega arith) in
+    let line = c .line-length .ensures [] 0 0 zero in
+    omega (arith, line-length [] 0 w n (counted .digit-count .result) 0 zero, columns-small w n (bounds ranges .3), address-small counted)
 
 -- what the code measures is the length of the text
 abbrev text : tie.Else2 → List ℕ
@@ -84,7 +87,7 @@ measured c =
     let ranges = counted .before .before in
     let a = start ranges .args in
     text-length (a .image .now) (a .bits) (width ranges) (count ranges) _ _ _ (counted .before .dump-lines .ensures) (counted .digit-count .ensures)
-    (λ first l. c .line-length .ensures (a .image .now) (a .bits) first (last (counted .before)) l (counted .digit-count .ensures))
+    (λ first l. c .line-length .ensures (a .image .now) (a .bits) first (column counted first l))
 
 bad-size-requires : tie.Need-bad-size-requires
 bad-size-requires c κs = search needs
@@ -116,7 +119,8 @@ digit-count-requires c κs = search needs
 line-length-requires : tie.Need-line-length-requires
 line-length-requires c κs =
     let b = bounds (c .before .before) in
-    (b .0, b .1, b .3, omega (arith, address-small c))
+    let some = count-some 16 (last (c .before)) (omega arith) in
+    (b .0, b .1, b .3, omega (arith, c .digit-count .ensures), omega (arith, address-small c))
 
 mul-needed : tie.Need-mul-needed
 mul-needed c =

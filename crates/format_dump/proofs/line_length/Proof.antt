@@ -34,9 +34,9 @@ add-result-4 : tie.Need-add-result-4
 add-result-4 c = omega (arith, columns c)
 
 returns : tie.Need-returns
-returns c bytes len first last l e =
+returns c bytes len first l =
     let a = c .before .args in
-    rw (c .between-length .ensures, e) (line-length bytes len (a .width) (a .count) first last l)
+    rw (c .between-length .ensures) (line-length bytes len (a .width) (a .count) (a .address) first l)
 
 pub line-length-spec : {M : Type 1} → statement M
 line-length-spec =

@@ -3,12 +3,12 @@
 use mathlib.Core.Path.{_≡_, refl, sym, ap, _∙_}
 use mathlib.Core.Bool.{false}
 use Prim.Native.Nat.{ℕ, _+_, _*_, _≤_, _<_, _^_}
-use native.Mathlib.Nat.{mul-le-mul, mul-le-mul-left}
+use native.Mathlib.Nat.{mul-le-mul}
 use native.Mathlib.Omega.{arith}
 use lib.ListN.{length}
 use borrow.Author.Needs.{needs}
 use Rattle.bitvec.specs.Size.{badSize, ceilDiv}
-use Rattle.bitvec.proofs.Size.{size-good, ceil-reach}
+use Rattle.bitvec.proofs.Size.{size-good, ceil-reach, ceil-most}
 use Rattle.output.proofs.Outcome.{exports-text, exports-no-room}
 use Rattle.digits.proofs.Base.{base-small}
 use Rattle.format_list.specs.List.{groupBits, listText, badList, listOutcome}
@@ -61,9 +61,9 @@ reach c =
 
 few : (c : tie.After-parts) → c .parts .result < 2 ^ 25
 few c =
+    let a = c .before .before .before .before .before .before .before .before .before .before .before .before .before .args in
     let g = group (c .before .before) in
-    let one : 1 ≤ groupBits (c .before .before .before .before .before .before .before .before .before .before .before .before .before .args .options) = omega arith in
-    omega (arith, reach c, mul-le-mul-left (c .parts .result) one)
+    rw (groups c) (omega (arith, size (c .before .before .before), ceil-most (a .bits) (groupBits (a .options)) (omega arith)))
 
 bad-size-requires : tie.Need-bad-size-requires
 bad-size-requires c κs = search needs

@@ -7,7 +7,7 @@ use borrow.Author.Tests.{eq-eqb, ne-eqb}
 use borrow.Author.Needs.{needs}
 use Rattle.output.specs.Pieces.{leading, every}
 use Rattle.output.proofs.Writes.{writes-nothing, writes-then}
-use Rattle.format_bytes.specs.Bytes.{lineStart}
+use Rattle.format_bytes.specs.Start.{lineStart}
 use Rattle.format_bytes.proofs.bytes.put_between.Statement.{statement}
 use Rattle.format_bytes.proofs.bytes.put_between.Tie as tie
 

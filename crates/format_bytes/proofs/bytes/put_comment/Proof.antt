@@ -8,7 +8,7 @@ use Rattle.output.specs.declared.Letters.the-variants.{Lower}
 use Rattle.output.specs.Digits.{digitCount, numberText}
 use Rattle.output.proofs.Digits.{number-length, padded-length}
 use Rattle.output.proofs.Writes.{writes-then}
-use Rattle.format_bytes.specs.Bytes.{addressComment}
+use Rattle.format_bytes.specs.CArray.{addressComment}
 use Rattle.format_bytes.proofs.Lengths.{comment-length}
 use Rattle.format_bytes.proofs.bytes.put_comment.Statement.{statement}
 use Rattle.format_bytes.proofs.bytes.put_comment.Tie as tie

@@ -13,7 +13,8 @@ use Rattle.output.specs.Writes.{Writes}
 use Rattle.output.proofs.Joined.{joined-none, joined-next, joined-room}
 use Rattle.output.proofs.Writes.{writes-nothing, writes-then}
 use Rattle.format_bytes.specs.declared.bytes.LineStart.{LineStart}
-use Rattle.format_bytes.specs.Bytes.{byteIn, lineStart, byteList}
+use Rattle.format_bytes.specs.Bytes.{byteIn, byteList}
+use Rattle.format_bytes.specs.Start.{lineStart}
 use Rattle.format_bytes.proofs.bytes.put_list.Statement.{statement}
 use Rattle.format_bytes.proofs.bytes.put_list.Tie as tie
 

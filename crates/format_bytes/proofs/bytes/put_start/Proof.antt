@@ -8,7 +8,8 @@ use borrow.Author.Needs.{needs}
 use Rattle.output.specs.Ascii.{ascii}
 use Rattle.output.proofs.Writes.{writes-then}
 use Rattle.format_bytes.specs.declared.bytes.LineStart.{LineStart}
-use Rattle.format_bytes.specs.Bytes.{addressComment, lineStart}
+use Rattle.format_bytes.specs.CArray.{addressComment}
+use Rattle.format_bytes.specs.Start.{lineStart}
 use Rattle.format_bytes.proofs.bytes.put_start.Statement.{statement}
 use Rattle.format_bytes.proofs.bytes.put_start.Tie as tie
 
@@ -16,7 +17,6 @@ enum-told : tie.Need-enum-told
 enum-told c = search needs
 
 put-requires : tie.Need-put-requires
-unfolding lineStart
 put-requires c κs =
     let a = c .before .before .before .before .args in
     let newline = ap (λ (s : LineStart). length (lineStart s (a .k))) (c .before .enum-told .given .1) in
@@ -27,7 +27,6 @@ enum-known-start c = search needs
 
 -- the line starts with a newline and the comment, for which there is room
 room : (c : tie.After-start) → c .before .before .before .args .at + (1 + length (addressComment (c .start .given .0 .0) (c .before .before .before .args .k))) ≤ length (c .before .before .before .args .out .now)
-unfolding lineStart
 room c =
     let start = c .before .before .before in
     let a = start .args in
@@ -44,14 +43,12 @@ same-length : tie.Need-same-length
 same-length c = search needs
 
 returns : tie.Need-returns
-unfolding lineStart
 returns c = rw (c .before .before .before .before .enum-told .given .1) (c .before .before .put .ensures)
 
 same-length-2 : tie.Need-same-length-2
 same-length-2 c = search needs
 
 returns-2 : tie.Need-returns-2
-unfolding lineStart
 returns-2 c = rw (c .before .before .before .before .before .before .before .before .before .start .given .1) (writes-then (c .before .before .before .before .before .before .put2 .ensures) (c .before .before .put-comment .ensures))
 
 pub put-start-spec : {M : Type 1} → statement M

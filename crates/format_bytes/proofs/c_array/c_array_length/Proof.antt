@@ -8,7 +8,7 @@ use Rattle.bitvec.specs.Size.{ceilDiv}
 use Rattle.output.specs.Ascii.{ascii}
 use Rattle.output.proofs.Digits.{count-small}
 use Rattle.format_bytes.specs.declared.bytes.LineStart.the-variants.{Comment}
-use Rattle.format_bytes.specs.Bytes.{lineStart}
+use Rattle.format_bytes.specs.Start.{lineStart}
 use Rattle.format_bytes.specs.CArray.{addressWidth}
 use Rattle.format_bytes.proofs.Lengths.{start-length, c-array-parts, address-length}
 use Rattle.format_bytes.proofs.c_array.c_array_length.Statement.{statement}

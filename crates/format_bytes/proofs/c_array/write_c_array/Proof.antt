@@ -7,8 +7,9 @@ use lib.ListN.{length}
 use Rattle.output.specs.Ascii.{ascii}
 use Rattle.output.proofs.Writes.{writes-then}
 use Rattle.format_bytes.specs.declared.bytes.LineStart.the-variants.{Comment}
-use Rattle.format_bytes.specs.Bytes.{addressComment, lineStart, byteList}
-use Rattle.format_bytes.specs.CArray.{cArrayText}
+use Rattle.format_bytes.specs.Bytes.{byteList}
+use Rattle.format_bytes.specs.CArray.{addressComment, cArrayText}
+use Rattle.format_bytes.specs.Start.{lineStart}
 use Rattle.format_bytes.proofs.Lengths.{c-array-parts}
 use Rattle.format_bytes.proofs.c_array.write_c_array.Statement.{statement}
 use Rattle.format_bytes.proofs.c_array.write_c_array.Tie as tie

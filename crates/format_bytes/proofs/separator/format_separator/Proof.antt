@@ -11,7 +11,8 @@ use Rattle.bitvec.proofs.Size.{size-good}
 use Rattle.output.specs.Outcome.{tooLong}
 use Rattle.output.proofs.Outcome.{short, exports-text, exports-no-room}
 use Rattle.format_bytes.specs.declared.bytes.LineStart.the-variants.{Newline}
-use Rattle.format_bytes.specs.Bytes.{badRadix, lineStart}
+use Rattle.format_bytes.specs.Bytes.{badRadix}
+use Rattle.format_bytes.specs.Start.{lineStart}
 use Rattle.format_bytes.specs.Separator.{separatorText, separatorOutcome}
 use Rattle.format_bytes.proofs.Lengths.{newline-length}
 use Rattle.format_bytes.proofs.separator.format_separator.Statement.{statement}

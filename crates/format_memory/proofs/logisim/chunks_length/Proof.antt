@@ -2,12 +2,12 @@
 -- Assumes nothing.
 use mathlib.Core.Path.{_≡_, ap, _∙_}
 use mathlib.Core.List.{List, []}
-use Prim.Native.Nat.{ℕ, _-_, _*_, _^_, _≤_, _<_}
-use native.Mathlib.Nat.{zero-mul, suc-mul, mul-le-mul-left}
+use Prim.Native.Nat.{ℕ, _-_, _*_, _≤_, _<_}
+use native.Mathlib.Nat.{zero-mul, suc-mul}
 use native.Mathlib.Omega.{arith}
 use lib.ListN.{length, length-append}
 use borrow.Author.Needs.{needs}
-use Rattle.bitvec.proofs.Size.{ceil-inside, ceil-reach}
+use Rattle.bitvec.proofs.Size.{ceil-inside, ceil-most}
 use Rattle.output.specs.Pieces.{pieces}
 use Rattle.output.proofs.Pieces.{pieces-none, pieces-next}
 use Rattle.digits.specs.Parts.{partBits}
@@ -23,7 +23,7 @@ Inv-loop bits width chunks offset₀ total₀ k₀ offset total k =
 abbrev μ-loop : tie.MeasureT-loop
 μ-loop bits width chunks offset₀ total₀ k₀ offset total k = chunks - k
 
--- in a turn the chunk starts within the image, and so there are fewer chunks than bits
+-- in a turn the chunk starts within the image
 starts : (c : tie.In-loop Inv-loop μ-loop) → c .before .loop .k * c .before .before .args .width < c .before .before .args .bits
 starts c =
     let start = c .before .before in
@@ -37,9 +37,9 @@ measured c bytes =
     let a = c .before .before .before .before .args in
     rw (← c .before .before .before .loop .inv .1, ← c .before .least .ensures) (c .chunk-length .ensures bytes (a .bits))
 
--- there are at most 2 ^ 25 chunks, and the chunk has at most 1026 characters
-few : (c : tie.In-loop Inv-loop μ-loop) → c .before .loop .k < 2 ^ 25
-few c = omega (arith, starts c, mul-le-mul-left (c .before .loop .k) (c .before .before .pre .0))
+-- there are no more chunks than bits, and a chunk has at most 1026 characters
+few : (c : tie.Start Inv-loop μ-loop) → c .args .chunks ≤ 16777216
+few c = omega (arith, c .pre .2, c .pre .3, ceil-most (c .args .bits) (c .args .width) (c .pre .0))
 
 small : (c : tie.After-chunk-length Inv-loop μ-loop) → c .chunk-length .result ≤ 1026
 unfolding partBits
@@ -60,7 +60,7 @@ chunk-length-requires : tie.Need-chunk-length-requires Inv-loop μ-loop
 chunk-length-requires c κs = omega (arith, starts (c .before))
 
 add-total : tie.Need-add-total Inv-loop μ-loop
-add-total c = omega (arith, few (c .before .before), small c)
+add-total c = omega (arith, few (c .before .before .before .before), small c)
 
 add-offset : tie.Need-add-offset Inv-loop μ-loop
 add-offset c = omega (arith, starts (c .before .before))
@@ -90,8 +90,7 @@ returns c =
     let start = l .before in
     let a = start .args in
     let done : l .loop .k ≡ a .chunks = omega arith in
-    let reach = rw (← start .pre .3) at (ceil-reach (a .bits) (a .width)) in
-    (rw done at (l .loop .inv .3), omega (arith, mul-le-mul-left (a .chunks) (start .pre .0)))
+    (rw done at (l .loop .inv .3), omega (arith, few start))
 
 pub chunks-length-spec : {M : Type 1} → statement M
 chunks-length-spec =
