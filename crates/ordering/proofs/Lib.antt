@@ -1,0 +1,4 @@
+pub mod Lists
+pub mod Ordered
+mod Merged
+pub mod Keys
