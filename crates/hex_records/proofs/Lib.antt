@@ -1,0 +1,4 @@
+pub mod Lists
+pub mod Text
+pub mod Plan
+pub mod Decoded

@@ -1,0 +1,159 @@
+// The records of Intel HEX files (document 01, module 8). A block is cut from its own start into bytes
+// and these into records of 32, the last shorter; each record is a line.
+use bitvec::BitOffset;
+use bitvec::UnitAddress;
+use bitvec::parts;
+use bitvec::read_byte;
+use digits::least;
+use output::Letters;
+use output::put;
+use output::put_all;
+use output::put_byte;
+use std::num::wrapping_add_u8;
+use std::num::wrapping_sub_u8;
+ghost use mathlib.Core.Path.{_≡_};
+ghost use mathlib.Core.List.{[], _∷_, _++_, flatMap};
+ghost use Prim.Native.Nat.{_+_, _*_, _/_, _%_, _^_, _≤_, _<_};
+ghost use lib.ListN.{length};
+ghost use lib.Seq.{sets};
+ghost use Rattle.output.specs.Ascii.{ascii};
+ghost use Rattle.output.specs.Writes.{Writes};
+ghost use Rattle.ordering.specs.Lists.{Each};
+ghost use Rattle.hex_records.specs.Plan.{hexPlan, blockPlan, blocksAt};
+ghost use Rattle.hex_records.specs.Text.{bytesFrom, total, hexBytes, recordText, hexText};
+
+// Writes `count` bytes of the image from `from` on, and adds them to `sum`, modulo 256.
+fn put_data(
+    bytes: &[u8],
+    len: usize,
+    from: BitOffset,
+    count: usize,
+    sum: u8,
+    out: &mut [u8],
+    at: usize,
+) -> u8
+    requires { ⌜ (from .0 + 8 * count + 8 < 2 ^ 64) × (at + 2 * count ≤ length (now out)) ⌝ }
+    ensures sum { λ r. ⌜ r ≡ (sum + total (bytesFrom (now (bytes .entry)) len (from .0) count)) % 256 ⌝ }
+    ensures stored { λ _. ⌜ now (out .exit) ≡ sets (now (out .entry)) at (hexBytes (bytesFrom (now (bytes .entry)) len (from .0) count)) ⌝ }
+{
+    let start = from.0;
+    let mut added = sum;
+    let mut next = at;
+    for k in 0..count {
+        let byte = read_byte(bytes, len, BitOffset(start + 8 * k));
+        next = put_byte(out, next, Letters::Upper, byte);
+        added = wrapping_add_u8(added, byte);
+    }
+    added
+}
+
+// The sum, modulo 256, of the three bytes before a record's data that are not always zero.
+fn head_sum(count: u8, high: u8, low: u8) -> u8
+    ensures { λ r. ⌜ r ≡ total (count ∷ high ∷ low ∷ 0 ∷ []) % 256 ⌝ }
+{
+    wrapping_add_u8(wrapping_add_u8(count, high), low)
+}
+
+// Writes what stands before a record's data: the colon, the number of data bytes, the address and
+// the type.
+fn put_head(count: u8, high: u8, low: u8, out: &mut [u8], at: usize) -> usize
+    requires { ⌜ at + 9 ≤ length (now out) ⌝ }
+    ensures { λ r. ⌜ Writes (ascii ":" ++ hexBytes (count ∷ high ∷ low ∷ 0 ∷ [])) (now (out .entry)) at (now (out .exit)) r ⌝ }
+{
+    let mark = put(out, at, b':');
+    let length = put_byte(out, mark, Letters::Upper, count);
+    let first = put_byte(out, length, Letters::Upper, high);
+    let second = put_byte(out, first, Letters::Upper, low);
+    put_byte(out, second, Letters::Upper, 0)
+}
+
+// Writes one record: its bytes are the `count` bytes of the image from `from` on.
+fn put_record(
+    bytes: &[u8],
+    len: usize,
+    from: BitOffset,
+    address: UnitAddress,
+    count: usize,
+    out: &mut [u8],
+    at: usize,
+) -> usize
+    requires small { ⌜ (count ≤ 255) × (address .0 ≤ 65535) × (from .0 + 8 * count + 8 < 2 ^ 64) ⌝ }
+    requires room { ⌜ at + (12 + 2 * count) ≤ length (now out) ⌝ }
+    ensures { λ r. ⌜ Writes (recordText (now (bytes .entry)) len (record { address = address .0; from = from .0; count = count })) (now (out .entry)) at (now (out .exit)) r ⌝ }
+{
+    let n = count as u8;
+    let high = (address.0 / 256) as u8;
+    let low = (address.0 % 256) as u8;
+    let data = put_head(n, high, low, out, at);
+    let sum = put_data(bytes, len, from, count, head_sum(n, high, low), out, data);
+    let end = put_byte(
+        out,
+        data + 2 * count,
+        Letters::Upper,
+        wrapping_sub_u8(0, sum),
+    );
+    put(out, end, b'\n')
+}
+
+// Writes the records of a block.
+fn put_block(
+    bytes: &[u8],
+    len: usize,
+    offset: usize,
+    size: usize,
+    unit: usize,
+    out: &mut [u8],
+    at: usize,
+) -> usize
+    requires small { ⌜ (0 < unit) × (offset < 2 ^ 32) × (size < 2 ^ 32) ⌝ }
+    requires low { ⌜ Each (λ c. c .address ≤ 65535) (blockPlan unit (record { offset = offset; size = size })) ⌝ }
+    requires room { ⌜ at + length (flatMap (recordText (now bytes) len) (blockPlan unit (record { offset = offset; size = size }))) ≤ length (now out) ⌝ }
+    ensures { λ r. ⌜ Writes (flatMap (recordText (now (bytes .entry)) len) (blockPlan unit (record { offset = offset; size = size }))) (now (out .entry)) at (now (out .exit)) r ⌝ }
+{
+    let count = parts(size, 8);
+    let records = parts(count, 32);
+    let mut next = at;
+    for n in 0..records {
+        let from = offset + 256 * n;
+        let address = BitOffset(from).address(unit);
+        next = put_record(
+            bytes,
+            len,
+            BitOffset(from),
+            address,
+            least(32, count - 32 * n),
+            out,
+            next,
+        );
+    }
+    next
+}
+
+// Writes the records of the blocks whose offsets and sizes are lent, and the end record.
+pub fn write_hex(
+    bytes: &[u8],
+    len: usize,
+    offsets: &[u32],
+    sizes: &[u32],
+    unit: usize,
+    out: &mut [u8],
+) -> usize
+    requires lent { ⌜ (0 < unit) × (length (now offsets) ≡ length (now sizes)) ⌝ }
+    requires low { ⌜ Each (λ c. c .address ≤ 65535) (hexPlan unit (blocksAt (now offsets) (now sizes))) ⌝ }
+    requires room { ⌜ length (hexText (now bytes) len (hexPlan unit (blocksAt (now offsets) (now sizes)))) ≤ length (now out) ⌝ }
+    ensures { λ r. ⌜ Writes (hexText (now (bytes .entry)) len (hexPlan unit (blocksAt (now (offsets .entry)) (now (sizes .entry))))) (now (out .entry)) 0 (now (out .exit)) r ⌝ }
+{
+    let mut next: usize = 0;
+    for k in 0..offsets.len() {
+        next = put_block(
+            bytes,
+            len,
+            offsets[k] as usize,
+            sizes[k] as usize,
+            unit,
+            out,
+            next,
+        );
+    }
+    put_all(out, next, b":00000001FF")
+}
