@@ -1,13 +1,14 @@
 -- Laws of plans: what holds of each of their records, and their texts as pieces.
 -- Assumes nothing.
-use mathlib.Core.Path.{_≡_, _∙_}
-use mathlib.Core.List.{List, [], _∷_, flatMap}
-use Prim.Native.Nat.{ℕ, _-_, _<_}
-use lib.ListN.{length, getD}
+use mathlib.Core.Path.{_≡_, ap, _∙_}
+use mathlib.Core.List.{List, [], _∷_, map, flatMap}
+use Prim.Native.Nat.{ℕ, _<_, _≤_}
+use native.Mathlib.Omega.{arith}
+use lib.ListN.{length, getD, List·getD-map}
 use Rattle.bitvec.specs.Size.{ceilDiv}
 use Rattle.output.specs.Pieces.{pieces}
 use Rattle.ordering.specs.Lists.{table, Each}
-use Rattle.ordering.proofs.Lists.{each-parts, each-append, table-each}
+use Rattle.ordering.proofs.Lists.{each-parts, each-append, each-table, table-each, table-equal, table-list, map-length}
 use Rattle.blocks.specs.Blocks.{Block}
 use Rattle.hex_records.specs.Plan.{Chunk, blockBytes, chunkAt, blockPlan, hexPlan, blocksAt}
 use Rattle.hex_records.specs.Text.{recordText}
@@ -54,3 +55,24 @@ plan-each P unit offsets sizes e =
 pub block-each : (P : Chunk → Type 0) (unit : ℕ) (b : Block) → Each P (blockPlan unit b) → (n : ℕ) → n < ceilDiv (blockBytes b) 32 → P (chunkAt unit b n)
 unfolding blockPlan
 block-each P unit b e = table-each P (chunkAt unit b) (ceilDiv (blockBytes b) 32) e
+
+-- Blocks are read back from their offsets and sizes.
+pub blocks-back : (blocks : List Block) → blocksAt (map (λ b. b .offset) blocks) (map (λ b. b .size) blocks) ≡ blocks
+unfolding blocksAt
+blocks-back blocks =
+    let none : Block = record { offset = 0; size = 0 } in
+    let offsets = map (λ b. b .offset) blocks in
+    let sizes = map (λ b. b .size) blocks in
+    ap (table (blockAt offsets sizes)) (map-length (λ b. b .offset) blocks)
+    ∙ table-equal (blockAt offsets sizes) (λ k. getD blocks k none) (length blocks)
+    (λ k h. rw (List·getD-map (λ b. b .offset) blocks k none, List·getD-map (λ b. b .size) blocks k none))
+    ∙ table-list blocks none
+
+-- A record has at most 32 bytes.
+pub plan-counts : (unit : ℕ) (blocks : List Block) → Each (λ c. c .count ≤ 32) (hexPlan unit blocks)
+unfolding hexPlan blockPlan chunkAt
+plan-counts unit blocks = flat-each (λ c. c .count ≤ 32) (blockPlan unit) blocks (each-all blocks)
+  where
+    each-all : (blocks : List Block) → Each (λ b. Each (λ c. c .count ≤ 32) (blockPlan unit b)) blocks
+    each-all [] = tt
+    each-all (b ∷ rest) = (each-table (λ c. c .count ≤ 32) (chunkAt unit b) (ceilDiv (blockBytes b) 32) (λ k h. omega arith), each-all rest)

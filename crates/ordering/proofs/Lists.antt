@@ -9,7 +9,7 @@ use native.Mathlib.Numerals.{add-one}
 use native.Mathlib.Omega.{arith}
 use lib.Dec.{ltb}
 use lib.ListN.{length, getD, take, drop, set, length-append, length-drop, List·getD-append, drop-of-length-le}
-use lib.Seq.{sets, sets-eq, getD-at, take-at, take-suc, length-take-le, take-add, take-append-seam, drop-drop, drop-append-seam}
+use lib.Seq.{sets, sets-eq, ext-getD, getD-at, take-at, take-suc, length-take-le, take-add, take-append-seam, drop-drop, drop-append-seam}
 use borrow.Author.Tests.{lt-ltb, le-ltb, ltb-false}
 use Rattle.output.proofs.Order.{by-order}
 use Rattle.output.proofs.Writes.{sets-append}
@@ -63,6 +63,10 @@ module _ {A : Type 0} where
   pub each-map : (P Q : A → Type 0) (l : List A) → ((x : A) → P x → Q x) → Each P l → Each Q l
   each-map P Q [] f p = tt
   each-map P Q (x ∷ l) f p = (f x (p .0), each-map P Q l f (p .1))
+
+  pub each-both : (P Q R : A → Type 0) (l : List A) → ((x : A) → P x → Q x → R x) → Each P l → Each Q l → Each R l
+  each-both P Q R [] f p q = tt
+  each-both P Q R (x ∷ l) f p q = (f x (p .0) (q .0), each-both P Q R l f (p .1) (q .1))
 
   -- Where a list goes on with the part a after k things, as many more are taken, and the rest is left.
   pub part-taken : (l a rest : List A) (k : ℕ) → drop k l ≡ a ++ rest → take (k + length a) l ≡ take k l ++ a
@@ -154,3 +158,9 @@ sets-part l m a rest k h e =
 -- What is stored from the front is there.
 pub sets-front : (l t : List ℕ) (n : ℕ) → length t ≤ length l → n ≡ length t → take n (sets l 0 t) ≡ t
 sets-front l t n h e = rw (sets-eq t l 0 (omega arith)) (take-at t (drop (0 + length t) l) n (sym e))
+
+-- A list is the table of its own things.
+pub table-list : {A : Type 0} (l : List A) (d : A) → table (λ k. getD l k d) (length l) ≡ l
+table-list l d =
+    let size = table-length (λ k. getD l k d) (length l) in
+    ext-getD d (table (λ k. getD l k d) (length l)) l size (λ i h. table-get (λ k. getD l k d) (length l) i d (omega (arith, size)))

@@ -1,0 +1,5 @@
+mod Lengths
+mod High
+mod Cover
+pub mod Conforms
+pub mod Rule
