@@ -9,7 +9,7 @@ use native.Mathlib.Omega.{arith}
 use lib.Dec.{ltb}
 use lib.ListN.{length}
 use Rattle.bitvec.specs.Size.{badSize}
-use Rattle.output.specs.Outcome.{Outcome, text, refused, outside, inRoom}
+use Rattle.output.specs.Outcome.{Outcome, text, refused, answer, outside, inRoom}
 use Rattle.output.proofs.Order.{by-order}
 use Rattle.output.proofs.Outcome.{room-enough, room-short}
 use Rattle.ordering.proofs.Lists.{each-both}
@@ -67,3 +67,24 @@ module _ (bytes : List ℕ) (len : ℕ) (offsets sizes : List ℕ) (unit room : 
       let x = exported t e in
       let good = each-both Low (λ c. c .count ≤ 32) (λ c. (c .address ≤ 65535) × (c .count ≤ 255)) plan (λ c x y. (x, omega arith)) (low-each plan (x .0)) (plan-counts unit (blocksOf offsets sizes)) in
       ap records (x .1) ∙ decodes bytes len plan good
+
+  -- An answer of number 0 comes with a text.
+  pub text-given : answer (hexOutcome bytes len offsets sizes unit room) .number ≡ 0 → (t : List ℕ) × (hexOutcome bytes len offsets sizes unit room ≡ text t)
+  unfolding hexOutcome planOutcome
+  text-given =
+      go (badSize bytes len) (outside 1 64 unit) (longList offsets sizes) (ltb (faultAt offsets sizes) (length offsets)) (tooHigh plan) (ltb room (length u))
+    where
+      u : List ℕ
+      u = hexText bytes len plan
+
+      ladder : Bool → Bool → Bool → Bool → Bool → Bool → Outcome
+      ladder a b c d h k = cond a (refused 1 0) (cond b (refused 2 0) (cond c (refused 3 4096) (cond d (refused 3 (faultAt offsets sizes)) (cond h (refused 5 0) (cond k (refused 8 (length u)) (text u))))))
+
+      go : (a b c d h k : Bool) → answer (ladder a b c d h k) .number ≡ 0 → (t : List ℕ) × (ladder a b c d h k ≡ text t)
+      go true b c d h k e = absurd (omega arith)
+      go false true c d h k e = absurd (omega arith)
+      go false false true d h k e = absurd (omega arith)
+      go false false false true h k e = absurd (omega arith)
+      go false false false false true k e = absurd (omega arith)
+      go false false false false false true e = absurd (omega arith)
+      go false false false false false false e = (u, refl)

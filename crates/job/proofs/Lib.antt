@@ -1,0 +1,2 @@
+mod Good
+mod Printed
