@@ -7,17 +7,24 @@
  *
  *   1  bits is above 16777216 or above 8 times image_len               value 0
  *   2  an option is outside its range                                  value 0
+ *   3  more than 4096 spans, or offsets_len is not sizes_len           value 4096
+ *      else: a present offset plus its size is above 16777216          value: the first one's place
  *   4  bits is 0 (format_c_array and format_mif alone)                 value 0
+ *   5  a record's address is above 65535 (format_intelhex alone)       value 0
  *   8  the text is longer than the output buffer                       value: the length needed
  *
  * To learn the length of a text before there is a buffer for it, call with an out_len of 0: where
- * none of 1, 2 and 4 applies, the length is stored, with 8, or with 0 where the text is empty.
+ * none of 1 to 5 applies, the length is stored, with 8, or with 0 where the text is empty.
  *
  * A string is bytes and their number, at most 256, and is copied as it is; it need not end with a
  * zero byte. A longer one is refusal 2.
  *
+ * Spans are two arrays of one length, at most 4096: span k is sizes[k] bits from bit offsets[k] on,
+ * and places are counted from 0. An offset of 4294967295 is absent. A span may lie past the image's
+ * end.
+ *
  * The refusals are checked in this order. No pointer may be null, also where its length is 0, and
- * `out`, `value` and `padded` may overlap neither each other nor the image or a string.
+ * `out`, `value` and `padded` may overlap neither each other nor the image, a string or the spans.
  */
 #ifndef RICESHOAL_H
 #define RICESHOAL_H
@@ -88,6 +95,18 @@ uint32_t riceshoal_format_logisim(const uint8_t *image, size_t image_len, size_t
 uint32_t riceshoal_format_dump(const uint8_t *image, size_t image_len, size_t bits,
                                size_t digit_bits, size_t byte_bits, size_t bytes_per_line,
                                uint8_t *out, size_t out_len, uint64_t *value);
+
+/* Intel HEX: data records of at most 32 bytes, each with a newline behind it, and the end record.
+ * Spans are taken by offset, equal offsets as lent, absent ones skipped. A span that starts where the
+ * block before it ends joins that block, any other one opens the next; blocks of size 0 are dropped.
+ * Each block is cut into bytes from its own start; a last one that is not whole takes the bits behind
+ * it. An address is a bit offset divided by address_unit, 1 to 64, rounded down. Refusals 1, 2, 3, 5
+ * and 8: with 3, *value is the place of the first bad span, or 4096 for a long list or lengths that
+ * differ; with 8, the length needed. */
+uint32_t riceshoal_format_intelhex(const uint8_t *image, size_t image_len, size_t bits,
+                                   const uint32_t *offsets, size_t offsets_len,
+                                   const uint32_t *sizes, size_t sizes_len, size_t address_unit,
+                                   uint8_t *out, size_t out_len, uint64_t *value);
 
 #ifdef __cplusplus
 }

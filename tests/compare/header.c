@@ -14,6 +14,9 @@ static const uint8_t image[2] = {0xb7, 0xff};
 /* The images of document 01's table. */
 static const uint8_t bytes[2] = {0x12, 0x0f};
 static const uint8_t digits[2] = {0xab, 0xcf};
+/* One span for HEX. */
+static const uint32_t offsets[1] = {0};
+static const uint32_t sizes[1] = {12};
 static uint8_t out[128];
 static uint64_t value;
 static uint8_t padded;
@@ -59,5 +62,8 @@ int main(void)
            "v2.0 raw\n1 \n2 ");
     expect("riceshoal_format_dump", riceshoal_format_dump(bytes, 2, 0, 4, 8, 16, OUT),
            " 0 | .. .. .. ..  .. .. .. ..  .. .. .. ..  .. .. .. .. | ................ |\n");
+    expect("riceshoal_format_intelhex",
+           riceshoal_format_intelhex(digits, 2, 12, offsets, 1, sizes, 1, 8, OUT),
+           ":02000000ABC093\n:00000001FF");
     return wrong;
 }

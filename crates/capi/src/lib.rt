@@ -13,6 +13,7 @@ ghost use Rattle.format_list.specs.List.{listOutcome};
 ghost use Rattle.format_memory.specs.Mif.{mifOutcome};
 ghost use Rattle.format_memory.specs.Logisim.{logisimOutcome};
 ghost use Rattle.format_dump.specs.Dump.{dumpOutcome};
+ghost use Rattle.intelhex.specs.Hex.{hexOutcome};
 ghost use Rattle.capi.specs.Returns.{Returns, flag};
 use format_dump::DumpOptions;
 use format_list::FormatListOptions;
@@ -194,4 +195,22 @@ pub extern "C" fn riceshoal_format_dump(
         bytes_per_line,
     };
     give(format_dump::format_dump(image, bits, options, out), value)
+}
+
+#[no_mangle]
+pub extern "C" fn riceshoal_format_intelhex(
+    image: &[u8],
+    bits: usize,
+    offsets: &[u32],
+    sizes: &[u32],
+    address_unit: usize,
+    out: &mut [u8],
+    value: &mut u64,
+) -> u32
+    ensures { λ r. ⌜ Returns (hexOutcome (now (image .entry)) bits (now (offsets .entry)) (now (sizes .entry)) «address_unit» (length (now (out .entry)))) r (now (value .exit)) (now (out .entry)) (now (out .exit)) ⌝ }
+{
+    give(
+        intelhex::format_intelhex(image, bits, offsets, sizes, address_unit, out),
+        value,
+    )
 }

@@ -116,15 +116,8 @@ fn put_block(
     for n in 0..records {
         let from = offset + 256 * n;
         let address = BitOffset(from).address(unit);
-        next = put_record(
-            bytes,
-            len,
-            BitOffset(from),
-            address,
-            least(32, count - 32 * n),
-            out,
-            next,
-        );
+        let held = least(32, count - 32 * n);
+        next = put_record(bytes, len, BitOffset(from), address, held, out, next);
     }
     next
 }

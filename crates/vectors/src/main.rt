@@ -165,6 +165,40 @@ fn export_list(s: &[u8], line: Line, image: &[u8], out: &mut [u8]) -> Export {
     )
 }
 
+// The number that four bytes make, the low one first.
+fn word(a: u8, b: u8, c: u8, d: u8) -> u32 {
+    a as u32 + 256 * b as u32 + 65536 * c as u32 + 16777216 * d as u32
+}
+
+// A number of each row of a table of spans: the offsets, or from byte 4 of a row on the sizes.
+fn column(table: &[u8; 256], at: usize) -> [u32; 32]
+    requires { ⌜ at ≤ 4 ⌝ }
+    ensures { λ r. ⌜ 32 ≡ length r ⌝ }
+{
+    let mut numbers = [0; 32];
+    for k in 0..32 {
+        let i = 8 * k + at;
+        numbers[k] = word(table[i], table[i + 1], table[i + 2], table[i + 3]);
+    }
+    numbers
+}
+
+// The first string is the table of spans.
+fn export_intelhex(s: &[u8], line: Line, image: &[u8], out: &mut [u8]) -> Export {
+    let mut table = [0u8; 256];
+    let n = bytes(s, line.strings, &mut table) / 8;
+    let offsets = column(&table, 0);
+    let sizes = column(&table, 4);
+    intelhex::format_intelhex(
+        image,
+        line.bits,
+        &offsets[..n],
+        &sizes[..n],
+        line.option,
+        out,
+    )
+}
+
 fn export_dump(line: Line, image: &[u8], out: &mut [u8]) -> Export {
     let options = DumpOptions {
         digit_bits: line.option,
@@ -211,6 +245,9 @@ fn export(s: &[u8], line: Line, out: &mut [u8]) -> Export {
     }
     if line.kind == b'd' {
         return export_dump(line, image, out);
+    }
+    if line.kind == b'x' {
+        return export_intelhex(s, line, image, out);
     }
     export_plain(line, image, out)
 }
@@ -323,4 +360,5 @@ fn main() {
     report(b"format_mif", s, b'i');
     report(b"format_logisim", s, b'g');
     report(b"format_dump", s, b'd');
+    report(b"format_intelhex", s, b'x');
 }

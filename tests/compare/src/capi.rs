@@ -105,6 +105,19 @@ mod raw {
             out_len: usize,
             value: *mut u64,
         ) -> u32;
+        pub fn riceshoal_format_intelhex(
+            image: *const u8,
+            image_len: usize,
+            bits: usize,
+            offsets: *const u32,
+            offsets_len: usize,
+            sizes: *const u32,
+            sizes_len: usize,
+            address_unit: usize,
+            out: *mut u8,
+            out_len: usize,
+            value: *mut u64,
+        ) -> u32;
     }
 }
 
@@ -217,7 +230,19 @@ pub fn format_dump(
     call!(riceshoal_format_dump(image, bits, digit_bits, byte_bits, bytes_per_line; out))
 }
 
-/// A string as C has it.
-fn parts(string: &[u8]) -> (*const u8, usize) {
-    (string.as_ptr(), string.len())
+pub fn format_intelhex(
+    image: &[u8],
+    bits: usize,
+    offsets: &[u32],
+    sizes: &[u32],
+    address_unit: usize,
+    out: &mut [u8],
+) -> Answer {
+    let ((o, n), (s, m)) = (parts(offsets), parts(sizes));
+    call!(riceshoal_format_intelhex(image, bits, o, n, s, m, address_unit; out))
+}
+
+/// A string or a list as C has it.
+fn parts<T>(slice: &[T]) -> (*const T, usize) {
+    (slice.as_ptr(), slice.len())
 }

@@ -69,7 +69,7 @@ pub struct Family {
     pub sparse: Exporters,
     /// For images at the limit.
     pub large: Exporters,
-    /// With options outside their range.
+    /// With options outside their range, or with spans that are refused.
     pub unfit: Exporters,
 }
 
@@ -141,6 +141,14 @@ impl Checker {
         let (code, value) = refusal.expect("a call that is refused");
         let answer = Answer { code, value, padded: 0 };
         for room in [0, 1, 77, 1000] {
+            self.call(Call { exporter, lent, bits, room, answer, text: &[] });
+        }
+    }
+
+    /// A call whose text is longer than every room that can be lent, so that the Rust is not asked.
+    pub fn too_long(&mut self, exporter: &dyn Exporter, lent: &[u8], bits: usize, len: u64) {
+        let answer = Answer { code: 8, value: len, padded: 0 };
+        for room in [0, 1000] {
             self.call(Call { exporter, lent, bits, room, answer, text: &[] });
         }
     }

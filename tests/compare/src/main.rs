@@ -9,6 +9,8 @@ mod capi;
 mod check;
 #[cfg(feature = "library")]
 mod dump;
+#[cfg(feature = "library")]
+mod hex;
 mod input;
 #[cfg(feature = "library")]
 mod list;
@@ -21,6 +23,7 @@ mod plain;
 mod readmem;
 #[cfg(feature = "library")]
 mod runs;
+mod spans;
 mod vectors;
 
 use std::process::ExitCode;
@@ -53,16 +56,26 @@ fn compare() -> ExitCode {
         Ok(Ok(seed)) => seed,
         Ok(Err(_)) => return failed("RICESHOAL_SEED is not a number"),
     };
-    let families =
-        [plain::family(), readmem::family(), list::family(), memory::family(), dump::family()];
+    let families = [
+        plain::family(),
+        readmem::family(),
+        list::family(),
+        memory::family(),
+        dump::family(),
+        hex::family(),
+    ];
     let mut checker = check::Checker::new(seed);
-    let runs: [(&str, fn(&mut check::Checker, &[check::Family])); 6] = [
+    let runs: [(&str, fn(&mut check::Checker, &[check::Family])); 10] = [
         ("every image of 0 to 12 bits", runs::small),
         ("lengths of 0 to 600 bits", runs::lengths),
         ("lengths around bytes and lines", runs::boundaries),
         ("65,535 to 65,537 bits", runs::large),
         ("16,777,215 and 16,777,216 bits", runs::limit),
-        ("refused bits and options", runs::refusals),
+        ("refused bits, options and spans", runs::refusals),
+        ("every list of 0 to 4 spans on a grid", hex::grid),
+        ("random lists of spans", hex::lists),
+        ("lists of up to 4,096 spans", hex::long),
+        ("addresses around 65,535", hex::edges),
     ];
     for (name, run) in runs {
         let (start, calls) = (std::time::Instant::now(), checker.calls);

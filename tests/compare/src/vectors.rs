@@ -4,6 +4,7 @@ use crate::input::{hex, Image, Rng, RANDOM, SEED};
 use crate::options::{
     self, group_bits, list_numbers, list_strings, string, LINE, LONGEST, RADIXES,
 };
+use crate::spans::{self, too_high, Spans, ABSENT};
 use reference::diagn::Report;
 use reference::util::{BitVec, FormatReadMemOptions};
 use std::io::{self, Write};
@@ -25,6 +26,8 @@ const HEAD: &str = "\
 #          g format_logisim    OPTION the bits per chunk
 #          d format_dump       OPTION the bits of a digit, OPTION2 of a byte,
 #                              OPTION3 the bytes per line
+#          x format_intelhex   OPTION the address unit, STRING the spans: for each its offset
+#                              (4294967295 for none) and its size, four bytes each, the low first
 # BITS     the length of the image in bits
 # IMAGE    its ceil(BITS / 8) bytes, at most 64; what stands past the last bit is random
 # TEXT     the answer's bytes, at most 4000
@@ -36,17 +39,20 @@ const HEAD: &str = "\
 const IMAGE: usize = 64;
 const TEXT: usize = 4000;
 const RECORD: usize = 500_000;
+/// The most spans: their table is a string.
+const SPANS: usize = LONGEST / 8;
 
 const WIDTHS: [usize; 30] = [
     1, 2, 3, 4, 5, 6, 7, 8, 9, 10, 11, 12, 13, 15, 16, 17, 20, 24, 31, 32, 33, 48, 63, 64, 65, 100,
     127, 128, 257, 4096,
 ];
 
-/// The options and strings of a call, and the bits of one line or digit.
+/// The options, strings and spans of a call, and the bits of one line or digit.
 #[derive(Default)]
 struct Call {
     numbers: [usize; 3],
     strings: [String; 4],
+    spans: Spans,
     line: usize,
 }
 
@@ -77,15 +83,16 @@ pub fn print() -> io::Result<()> {
     list(&mut record);
     memory(&mut record);
     dump(&mut record);
+    intelhex(&mut record);
     assert!(record.text.len() < RECORD);
     io::stdout().lock().write_all(record.text.as_bytes())
 }
 
 fn plain(record: &mut Record) {
     let rust = |image: &BitVec, _: &Call| image.format_binary(&mut Report::new());
-    record.lines(Kind { letter: 'b', lengths: LEAST, rust }, &numbers(&[0]), 300);
+    record.lines(Kind { letter: 'b', lengths: LEAST, rust }, &numbers(&[0]), 200);
     let rust = |image: &BitVec, call: &Call| image.format_str(call.numbers[0]).into();
-    record.lines(Kind { letter: 's', lengths: LEAST, rust }, &numbers(&[1, 2, 3, 4, 5]), 80);
+    record.lines(Kind { letter: 's', lengths: LEAST, rust }, &numbers(&[1, 2, 3, 4, 5]), 50);
 }
 
 fn readmem(record: &mut Record) {
@@ -93,9 +100,9 @@ fn readmem(record: &mut Record) {
         FormatReadMemOptions { width: call.numbers[0] }
     }
     let rust = |image: &BitVec, call: &Call| image.format_readmemb(&width(call)).into();
-    record.lines(Kind { letter: 'm', lengths: LEAST, rust }, &numbers(&WIDTHS), 10);
+    record.lines(Kind { letter: 'm', lengths: LEAST, rust }, &numbers(&WIDTHS), 6);
     let rust = |image: &BitVec, call: &Call| image.format_readmemh(&width(call)).into();
-    record.lines(Kind { letter: 'h', lengths: LEAST, rust }, &numbers(&WIDTHS), 10);
+    record.lines(Kind { letter: 'h', lengths: LEAST, rust }, &numbers(&WIDTHS), 8);
 }
 
 fn list(record: &mut Record) {
@@ -128,13 +135,21 @@ fn dump(record: &mut Record) {
         let [digit, byte, bytes] = call.numbers;
         image.format_dump(digit, byte, bytes).into()
     };
-    let calls: Vec<Call> = (0..176).map(dump_call).collect();
+    let calls: Vec<Call> = (0..160).map(dump_call).collect();
     record.lines(Kind { letter: 'd', lengths: LENGTHS, rust }, &calls, 1);
 }
 
-/// Both digits with all bytes per line, then with few.
+fn intelhex(record: &mut Record) {
+    let rust = |image: &BitVec, call: &Call| {
+        call.spans.rust(image).format_intelhex(call.numbers[0]).into()
+    };
+    let calls = span_lists(&mut record.rng);
+    record.lines(Kind { letter: 'x', lengths: LENGTHS, rust }, &calls, 1);
+}
+
+/// All bytes per line with one of the digits, then few with both.
 fn dump_call(k: usize) -> Call {
-    let bytes = if k < 128 { 1 + k / 2 } else { 1 + k / 2 % 16 };
+    let bytes = if k < 64 { 1 + k } else { 1 + k / 2 % 16 };
     Call { numbers: [[1, 4][k % 2], 8, bytes], line: 8 * bytes, ..Call::default() }
 }
 
@@ -164,7 +179,7 @@ fn lists(rng: &mut Rng) -> Vec<Call> {
         let digits = if k < 64 { 1 + k } else { 1 + k % 6 };
         let numbers = list_numbers(k, digits);
         let strings = list_strings(rng, numbers);
-        calls.push(Call { numbers, strings, line: group_bits(numbers) });
+        calls.push(Call { numbers, strings, line: group_bits(numbers), ..Call::default() });
     }
     for k in 0..5 {
         let mut call = Call { numbers: [16, 2, 2], line: 8, ..Call::default() };
@@ -172,6 +187,29 @@ fn lists(rng: &mut Rng) -> Vec<Call> {
             *text = string(rng, if k == place || k == 4 { LONGEST } else { 1 });
         }
         calls.push(call);
+    }
+    calls
+}
+
+/// Lists of spans with every unit, mostly short ones; some have the most spans, and in some a span is
+/// far from the others. None is refused.
+fn span_lists(rng: &mut Rng) -> Vec<Call> {
+    let mut calls = Vec::new();
+    while calls.len() < 250 {
+        let k = calls.len();
+        let unit = 1 + k % 64;
+        let (count, most) = match k {
+            0 | 1 => (0, 400),
+            _ if k % 25 == 24 => (SPANS, 1200),
+            _ => (1 + k % 6, 400),
+        };
+        let mut spans = spans::random(rng, count);
+        if k % 8 == 5 && spans.offsets[0] != ABSENT {
+            spans.offsets[0] += rng.below(too_high(unit) as usize) as u32;
+        }
+        if spans.refusal(unit).is_none() && spans.text_len() <= most {
+            calls.push(Call { line: spans.extent(), spans, ..number(unit) });
+        }
     }
     calls
 }
@@ -187,7 +225,11 @@ impl Record {
                 let text = (kind.rust)(&image.rust, call);
                 assert!(lent.len() <= IMAGE && text.len() <= TEXT);
                 let numbers = call.numbers.map(|number| number.to_string()).join(" ");
-                let strings = call.strings.each_ref().map(|text| hex(text.as_bytes())).join(" ");
+                let mut strings = call.strings.each_ref().map(|text| hex(text.as_bytes()));
+                if kind.letter == 'x' {
+                    strings[0] = hex(&call.spans.table());
+                }
+                let strings = strings.join(" ");
                 let (letter, lent, text) = (kind.letter, hex(&lent), hex(&text));
                 self.text += &format!("{letter} {numbers} {strings} {bits} {lent} {text}\n");
             }

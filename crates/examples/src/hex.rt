@@ -1,0 +1,284 @@
+// Intel HEX, with units of 8 bits but where another one is named.
+ghost use Prim.Native.Nat.{_≤_};
+use crate::tell::OLD;
+use crate::tell::gave;
+use crate::tell::tell;
+use intelhex::format_intelhex;
+use ordering::ABSENT;
+
+pub(crate) fn no_spans() -> u64
+    ensures { λ r. ⌜ r ≤ 1 ⌝ }
+{
+    let mut out = [OLD; 256];
+    let answer = format_intelhex(&[0x12], 8, &[], &[], 8, &mut out);
+    tell(b"HEX, no spans", gave(answer, &out, 0, 11, b":00000001FF"))
+}
+
+// The last byte has spare bits that are set.
+pub(crate) fn twelve_bits() -> u64
+    ensures { λ r. ⌜ r ≤ 1 ⌝ }
+{
+    let mut out = [OLD; 256];
+    let answer = format_intelhex(&[0xab, 0xcf], 12, &[0], &[12], 8, &mut out);
+    tell(
+        b"HEX, 12 bits ABC, span 0 size 12",
+        gave(answer, &out, 0, 27, b":02000000ABC093\n:00000001FF"),
+    )
+}
+
+// A block that is not whole bytes takes the bits after it.
+pub(crate) fn half_a_byte() -> u64
+    ensures { λ r. ⌜ r ≤ 1 ⌝ }
+{
+    let mut out = [OLD; 256];
+    let answer = format_intelhex(&[0xab, 0xcd], 16, &[0], &[4], 8, &mut out);
+    tell(
+        b"HEX, 16 bits ABCD, span 0 size 4",
+        gave(answer, &out, 0, 25, b":01000000AB54\n:00000001FF"),
+    )
+}
+
+pub(crate) fn empty_span_after() -> u64
+    ensures { λ r. ⌜ r ≤ 1 ⌝ }
+{
+    let mut out = [OLD; 256];
+    let answer = format_intelhex(&[0x11, 0x22], 16, &[0, 0, 8], &[8, 0, 8], 8, &mut out);
+    tell(
+        b"HEX, bytes 11 22, spans (0,8) (0,0) (8,8)",
+        gave(
+            answer,
+            &out,
+            0,
+            39,
+            b":0100000011EE\n:0100010022DC\n:00000001FF",
+        ),
+    )
+}
+
+pub(crate) fn empty_span_before() -> u64
+    ensures { λ r. ⌜ r ≤ 1 ⌝ }
+{
+    let mut out = [OLD; 256];
+    let answer = format_intelhex(&[0x11, 0x22], 16, &[0, 0, 8], &[0, 8, 8], 8, &mut out);
+    tell(
+        b"HEX, bytes 11 22, spans (0,0) (0,8) (8,8)",
+        gave(answer, &out, 0, 27, b":020000001122CB\n:00000001FF"),
+    )
+}
+
+pub(crate) fn last_address() -> u64
+    ensures { λ r. ⌜ r ≤ 1 ⌝ }
+{
+    let mut out = [OLD; 256];
+    let answer = format_intelhex(b"", 0, &[524280], &[8], 8, &mut out);
+    tell(
+        b"HEX, empty image, span (524280,8)",
+        gave(answer, &out, 0, 25, b":01FFFF000001\n:00000001FF"),
+    )
+}
+
+pub(crate) fn past_the_last_address() -> u64
+    ensures { λ r. ⌜ r ≤ 1 ⌝ }
+{
+    let mut out = [OLD; 256];
+    let answer = format_intelhex(b"", 0, &[524288], &[8], 8, &mut out);
+    tell(
+        b"refusal 5: HEX, span (524288,8)",
+        gave(answer, &out, 5, 0, b""),
+    )
+}
+
+pub(crate) fn second_record() -> u64
+    ensures { λ r. ⌜ r ≤ 1 ⌝ }
+{
+    let mut out = [OLD; 256];
+    let answer = format_intelhex(&[0; 33], 264, &[0], &[264], 8, &mut out);
+    tell(
+        b"HEX, 33 zero bytes, span (0,264)",
+        gave(
+            answer,
+            &out,
+            0,
+            101,
+            b":200000000000000000000000000000000000000000000000000000000000000000000000E0\n:0100200000DF\n:00000001FF",
+        ),
+    )
+}
+
+pub(crate) fn absent_offset() -> u64
+    ensures { λ r. ⌜ r ≤ 1 ⌝ }
+{
+    let mut out = [OLD; 256];
+    let answer = format_intelhex(&[0x12], 8, &[0, ABSENT], &[8, ABSENT], 8, &mut out);
+    tell(
+        b"HEX, a span with an absent offset is skipped",
+        gave(answer, &out, 0, 25, b":0100000012ED\n:00000001FF"),
+    )
+}
+
+// In units of 16 bits, byte 2 is at address 1.
+pub(crate) fn unit_of_two_bytes() -> u64
+    ensures { λ r. ⌜ r ≤ 1 ⌝ }
+{
+    let mut out = [OLD; 256];
+    let answer = format_intelhex(&[0, 0, 0x12], 24, &[16], &[8], 16, &mut out);
+    tell(
+        b"HEX unit 16, span (16,8)",
+        gave(answer, &out, 0, 25, b":0100010012EC\n:00000001FF"),
+    )
+}
+
+pub(crate) fn past_the_bytes() -> u64
+    ensures { λ r. ⌜ r ≤ 1 ⌝ }
+{
+    let mut out = [OLD; 256];
+    let answer = format_intelhex(&[0x12], 9, &[0], &[8], 0, &mut out);
+    tell(
+        b"refusal 1: HEX, 9 bits of one byte, before unit 0",
+        gave(answer, &out, 1, 0, b""),
+    )
+}
+
+pub(crate) fn no_unit() -> u64
+    ensures { λ r. ⌜ r ≤ 1 ⌝ }
+{
+    let mut out = [OLD; 256];
+    let answer = format_intelhex(&[0x12], 8, &[0], &[], 0, &mut out);
+    tell(
+        b"refusal 2: HEX unit 0, before unequal slices",
+        gave(answer, &out, 2, 0, b""),
+    )
+}
+
+pub(crate) fn large_unit() -> u64
+    ensures { λ r. ⌜ r ≤ 1 ⌝ }
+{
+    let mut out = [OLD; 256];
+    let answer = format_intelhex(&[0x12], 8, &[0], &[8], 65, &mut out);
+    tell(b"refusal 2: HEX unit 65", gave(answer, &out, 2, 0, b""))
+}
+
+pub(crate) fn long_list() -> u64
+    ensures { λ r. ⌜ r ≤ 1 ⌝ }
+{
+    let mut out = [OLD; 256];
+    let offsets = [16777216; 4097];
+    let sizes = [8; 4097];
+    let answer = format_intelhex(&[0x12], 8, &offsets, &sizes, 8, &mut out);
+    tell(
+        b"refusal 3: 4,097 spans, before bad ones",
+        gave(answer, &out, 3, 4096, b""),
+    )
+}
+
+pub(crate) fn unequal_slices() -> u64
+    ensures { λ r. ⌜ r ≤ 1 ⌝ }
+{
+    let mut out = [OLD; 256];
+    let answer = format_intelhex(&[0x12], 8, &[0, 8], &[8], 8, &mut out);
+    tell(
+        b"refusal 3: two offsets and one size",
+        gave(answer, &out, 3, 4096, b""),
+    )
+}
+
+// The place is the one as lent; an absent offset is no fault, and an offset too high comes after.
+pub(crate) fn bad_span() -> u64
+    ensures { λ r. ⌜ r ≤ 1 ⌝ }
+{
+    let mut out = [OLD; 256];
+    let answer = format_intelhex(
+        &[0x12],
+        8,
+        &[16777208, ABSENT, 16777209, 16777216],
+        &[8, ABSENT, 8, 8],
+        8,
+        &mut out,
+    );
+    tell(
+        b"refusal 3: span 2 ends past 16,777,216, before a high address",
+        gave(answer, &out, 3, 2, b""),
+    )
+}
+
+pub(crate) fn past_32_bits() -> u64
+    ensures { λ r. ⌜ r ≤ 1 ⌝ }
+{
+    let mut out = [OLD; 256];
+    let answer = format_intelhex(&[0x12], 8, &[0, 8], &[8, 4294967288], 8, &mut out);
+    tell(
+        b"refusal 3: offset plus size of span 1 is 4,294,967,296",
+        gave(answer, &out, 3, 1, b""),
+    )
+}
+
+pub(crate) fn no_room() -> u64
+    ensures { λ r. ⌜ r ≤ 1 ⌝ }
+{
+    let mut out = [OLD; 256];
+    let answer = format_intelhex(&[0xab, 0xcf], 12, &[0], &[12], 8, &mut out[..26]);
+    tell(
+        b"refusal 8: HEX in a room of 26",
+        gave(answer, &out, 8, 27, b""),
+    )
+}
+
+// A record published in descriptions of the format: 02 33 7A at address 0x30.
+pub(crate) fn published_record() -> u64
+    ensures { λ r. ⌜ r ≤ 1 ⌝ }
+{
+    let mut out = [OLD; 256];
+    let mut image = [0; 51];
+    image[48] = 0x02;
+    image[49] = 0x33;
+    image[50] = 0x7a;
+    let answer = format_intelhex(&image, 408, &[384], &[24], 8, &mut out);
+    tell(
+        b"HEX, published: 02 33 7A at address 30",
+        gave(answer, &out, 0, 29, b":0300300002337A1E\n:00000001FF"),
+    )
+}
+
+// The file in srec_intel(5) of Debian's srecord, which is derived from Intel's specification.
+pub(crate) fn published_by_srecord() -> u64
+    ensures { λ r. ⌜ r ≤ 1 ⌝ }
+{
+    let mut out = [OLD; 256];
+    let answer = format_intelhex(b"Hello, World\n", 104, &[0], &[104], 8, &mut out);
+    tell(
+        b"HEX, published: the file of srec_intel(5)",
+        gave(
+            answer,
+            &out,
+            0,
+            49,
+            b":0D00000048656C6C6F2C20576F726C640AA1\n:00000001FF",
+        ),
+    )
+}
+
+// The file hex_bug_lp_341051 that Debian's python3-intelhex carries, intelhex/test.py: bytes at
+// addresses 0xFEC and 0xFF0, with a gap between them.
+pub(crate) fn published_by_intelhex() -> u64
+    ensures { λ r. ⌜ r ≤ 1 ⌝ }
+{
+    let mut out = [OLD; 256];
+    let mut image = [0; 4084];
+    image[4076] = 0xe4;
+    image[4077] = 0xe7;
+    image[4080] = 0x22;
+    image[4081] = 0xe1;
+    image[4082] = 0x22;
+    image[4083] = 0xe1;
+    let answer = format_intelhex(&image, 32672, &[32640, 32608], &[32, 16], 8, &mut out);
+    tell(
+        b"HEX, published: a file of python3-intelhex",
+        gave(
+            answer,
+            &out,
+            0,
+            47,
+            b":020FEC00E4E738\n:040FF00022E122E1F7\n:00000001FF",
+        ),
+    )
+}
