@@ -6,7 +6,7 @@ use crate::tell::tell;
 use intelhex::format_intelhex;
 use ordering::ABSENT;
 
-pub(crate) fn no_spans() -> u64
+fn no_spans() -> u64
     ensures { λ r. ⌜ r ≤ 1 ⌝ }
 {
     let mut out = [OLD; 256];
@@ -15,7 +15,7 @@ pub(crate) fn no_spans() -> u64
 }
 
 // The last byte has spare bits that are set.
-pub(crate) fn twelve_bits() -> u64
+fn twelve_bits() -> u64
     ensures { λ r. ⌜ r ≤ 1 ⌝ }
 {
     let mut out = [OLD; 256];
@@ -27,7 +27,7 @@ pub(crate) fn twelve_bits() -> u64
 }
 
 // A block that is not whole bytes takes the bits after it.
-pub(crate) fn half_a_byte() -> u64
+fn half_a_byte() -> u64
     ensures { λ r. ⌜ r ≤ 1 ⌝ }
 {
     let mut out = [OLD; 256];
@@ -38,7 +38,7 @@ pub(crate) fn half_a_byte() -> u64
     )
 }
 
-pub(crate) fn empty_span_after() -> u64
+fn empty_span_after() -> u64
     ensures { λ r. ⌜ r ≤ 1 ⌝ }
 {
     let mut out = [OLD; 256];
@@ -55,7 +55,7 @@ pub(crate) fn empty_span_after() -> u64
     )
 }
 
-pub(crate) fn empty_span_before() -> u64
+fn empty_span_before() -> u64
     ensures { λ r. ⌜ r ≤ 1 ⌝ }
 {
     let mut out = [OLD; 256];
@@ -66,7 +66,7 @@ pub(crate) fn empty_span_before() -> u64
     )
 }
 
-pub(crate) fn last_address() -> u64
+fn last_address() -> u64
     ensures { λ r. ⌜ r ≤ 1 ⌝ }
 {
     let mut out = [OLD; 256];
@@ -77,7 +77,7 @@ pub(crate) fn last_address() -> u64
     )
 }
 
-pub(crate) fn past_the_last_address() -> u64
+fn past_the_last_address() -> u64
     ensures { λ r. ⌜ r ≤ 1 ⌝ }
 {
     let mut out = [OLD; 256];
@@ -88,7 +88,7 @@ pub(crate) fn past_the_last_address() -> u64
     )
 }
 
-pub(crate) fn second_record() -> u64
+fn second_record() -> u64
     ensures { λ r. ⌜ r ≤ 1 ⌝ }
 {
     let mut out = [OLD; 256];
@@ -105,7 +105,7 @@ pub(crate) fn second_record() -> u64
     )
 }
 
-pub(crate) fn absent_offset() -> u64
+fn absent_offset() -> u64
     ensures { λ r. ⌜ r ≤ 1 ⌝ }
 {
     let mut out = [OLD; 256];
@@ -117,7 +117,7 @@ pub(crate) fn absent_offset() -> u64
 }
 
 // In units of 16 bits, byte 2 is at address 1.
-pub(crate) fn unit_of_two_bytes() -> u64
+fn unit_of_two_bytes() -> u64
     ensures { λ r. ⌜ r ≤ 1 ⌝ }
 {
     let mut out = [OLD; 256];
@@ -128,7 +128,7 @@ pub(crate) fn unit_of_two_bytes() -> u64
     )
 }
 
-pub(crate) fn past_the_bytes() -> u64
+fn past_the_bytes() -> u64
     ensures { λ r. ⌜ r ≤ 1 ⌝ }
 {
     let mut out = [OLD; 256];
@@ -139,7 +139,7 @@ pub(crate) fn past_the_bytes() -> u64
     )
 }
 
-pub(crate) fn no_unit() -> u64
+fn no_unit() -> u64
     ensures { λ r. ⌜ r ≤ 1 ⌝ }
 {
     let mut out = [OLD; 256];
@@ -150,7 +150,7 @@ pub(crate) fn no_unit() -> u64
     )
 }
 
-pub(crate) fn large_unit() -> u64
+fn large_unit() -> u64
     ensures { λ r. ⌜ r ≤ 1 ⌝ }
 {
     let mut out = [OLD; 256];
@@ -158,7 +158,7 @@ pub(crate) fn large_unit() -> u64
     tell(b"refusal 2: HEX unit 65", gave(answer, &out, 2, 0, b""))
 }
 
-pub(crate) fn long_list() -> u64
+fn long_list() -> u64
     ensures { λ r. ⌜ r ≤ 1 ⌝ }
 {
     let mut out = [OLD; 256];
@@ -171,7 +171,7 @@ pub(crate) fn long_list() -> u64
     )
 }
 
-pub(crate) fn unequal_slices() -> u64
+fn unequal_slices() -> u64
     ensures { λ r. ⌜ r ≤ 1 ⌝ }
 {
     let mut out = [OLD; 256];
@@ -183,7 +183,7 @@ pub(crate) fn unequal_slices() -> u64
 }
 
 // The place is the one as lent; an absent offset is no fault, and an offset too high comes after.
-pub(crate) fn bad_span() -> u64
+fn bad_span() -> u64
     ensures { λ r. ⌜ r ≤ 1 ⌝ }
 {
     let mut out = [OLD; 256];
@@ -201,7 +201,7 @@ pub(crate) fn bad_span() -> u64
     )
 }
 
-pub(crate) fn past_32_bits() -> u64
+fn past_32_bits() -> u64
     ensures { λ r. ⌜ r ≤ 1 ⌝ }
 {
     let mut out = [OLD; 256];
@@ -212,7 +212,7 @@ pub(crate) fn past_32_bits() -> u64
     )
 }
 
-pub(crate) fn no_room() -> u64
+fn no_room() -> u64
     ensures { λ r. ⌜ r ≤ 1 ⌝ }
 {
     let mut out = [OLD; 256];
@@ -224,7 +224,7 @@ pub(crate) fn no_room() -> u64
 }
 
 // A record published in descriptions of the format: 02 33 7A at address 0x30.
-pub(crate) fn published_record() -> u64
+fn published_record() -> u64
     ensures { λ r. ⌜ r ≤ 1 ⌝ }
 {
     let mut out = [OLD; 256];
@@ -240,7 +240,7 @@ pub(crate) fn published_record() -> u64
 }
 
 // The file in srec_intel(5) of Debian's srecord, which is derived from Intel's specification.
-pub(crate) fn published_by_srecord() -> u64
+fn published_by_srecord() -> u64
     ensures { λ r. ⌜ r ≤ 1 ⌝ }
 {
     let mut out = [OLD; 256];
@@ -259,7 +259,7 @@ pub(crate) fn published_by_srecord() -> u64
 
 // The file hex_bug_lp_341051 that Debian's python3-intelhex carries, intelhex/test.py: bytes at
 // addresses 0xFEC and 0xFF0, with a gap between them.
-pub(crate) fn published_by_intelhex() -> u64
+fn published_by_intelhex() -> u64
     ensures { λ r. ⌜ r ≤ 1 ⌝ }
 {
     let mut out = [OLD; 256];
@@ -281,4 +281,32 @@ pub(crate) fn published_by_intelhex() -> u64
             b":020FEC00E4E738\n:040FF00022E122E1F7\n:00000001FF",
         ),
     )
+}
+
+// Runs them all, and answers how many came out.
+pub(crate) fn all() -> u64
+    ensures { λ r. ⌜ r ≤ 21 ⌝ }
+{
+    let mut count = no_spans();
+    count += twelve_bits();
+    count += half_a_byte();
+    count += empty_span_after();
+    count += empty_span_before();
+    count += last_address();
+    count += past_the_last_address();
+    count += second_record();
+    count += absent_offset();
+    count += unit_of_two_bytes();
+    count += past_the_bytes();
+    count += no_unit();
+    count += large_unit();
+    count += long_list();
+    count += unequal_slices();
+    count += bad_span();
+    count += past_32_bits();
+    count += no_room();
+    count += published_record();
+    count += published_by_srecord();
+    count += published_by_intelhex();
+    count
 }

@@ -38,27 +38,7 @@ fn main() {
     count += dumps::one_line_of_129_bits();
     count += dumps::bindump_of_three_bits();
     count += dumps::bytes_of_nine_bits();
-    count += hex::no_spans();
-    count += hex::twelve_bits();
-    count += hex::half_a_byte();
-    count += hex::empty_span_after();
-    count += hex::empty_span_before();
-    count += hex::last_address();
-    count += hex::past_the_last_address();
-    count += hex::second_record();
-    count += hex::absent_offset();
-    count += hex::unit_of_two_bytes();
-    count += hex::past_the_bytes();
-    count += hex::no_unit();
-    count += hex::large_unit();
-    count += hex::long_list();
-    count += hex::unequal_slices();
-    count += hex::bad_span();
-    count += hex::past_32_bits();
-    count += hex::no_room();
-    count += hex::published_record();
-    count += hex::published_by_srecord();
-    count += hex::published_by_intelhex();
+    count += hex::all();
     io::print_decimal(1, count);
     io::write_all(1, b" examples came out\n");
 }
