@@ -21,7 +21,7 @@ use Rattle.format_plain.specs.Str.{strText, strOutcome}
 use Rattle.format_plain.specs.Readmem.{lineText, readmemText, readmemOutcome}
 use Rattle.format_list.specs.List.{groupText, betweenGroups, listText, badList, listOutcome}
 use Rattle.format_memory.specs.Logisim.{chunkText, logisimText, logisimOutcome}
-use Rattle.examples.specs.Table.{Row, rows}
+use Rattle.table.specs.Table.{Row, rows}
 
 pub table : map (λ (r : Row). r .given) rows ≡ map (λ (r : Row). text (ascii (r .printed))) rows
 unfolding bitAt bitsAt badSize ceilDiv digitChar byteText flatMap numbered first put-in ordered rank inOrder present closed running blocksIn blocksOf longList badSpan faultAt chunkAt blockPlan hexPlan tooHigh bytesFrom total checksum recordBytes hexBytes recordText hexText planOutcome hexOutcome pieces leading joined every outside digitAt run shortDigit hexLine partBits baseBits strText strOutcome lineText readmemText readmemOutcome tooLong groupText betweenGroups listText badList listOutcome chunkText logisimText logisimOutcome
