@@ -14,7 +14,7 @@ use Rattle.output.specs.Outcome.{Outcome, text, refused, answer, answerOf, left
 use Rattle.output.proofs.Order.{by-order}
 use Rattle.output.proofs.Outcome.{room-enough, room-short}
 use Rattle.ordering.specs.Lists.{Each}
-use Rattle.ordering.proofs.Lists.{each-both, sets-front}
+use Rattle.ordering.proofs.Lists.{each-both, each-map, sets-front}
 use Rattle.blocks.specs.Blocks.{blocksOf, longList, faultAt}
 use Rattle.hex_records.specs.Plan.{Chunk, hexPlan, tooHigh}
 use Rattle.hex_records.specs.Text.{hexText}
@@ -25,8 +25,8 @@ use Rattle.intelhex.specs.TwoImages.{Agree, Same, SameAnswers, refused-a
 use Rattle.intelhex.proofs.High.{Low, low-each}
 use Rattle.intelhex.proofs.Cover.{plan-covers}
 
--- The rule over a plan: whatever A says in terms of the plan's bytes, the texts say.
-pub plan-rule : (b₁ b₂ : List ℕ) (n₁ n₂ : ℕ) (plan : List Chunk) (room : ℕ) (A : Type 0) → Each (λ c. c .count ≤ 32) plan
+-- The rule over a plan, of records of at most 255 bytes as Intel allows: whatever A says in terms of the plan's bytes, the texts say.
+pub plan-rule : (b₁ b₂ : List ℕ) (n₁ n₂ : ℕ) (plan : List Chunk) (room : ℕ) (A : Type 0) → Each (λ c. c .count ≤ 255) plan
     → Each (SameBytes b₁ b₂ n₁ n₂) plan ↔ A → Same (planOutcome b₁ n₁ plan room) (planOutcome b₂ n₂ plan room) A
 unfolding planOutcome
 plan-rule b₁ b₂ n₁ n₂ plan room A counts covers = go (tooHigh plan) refl
@@ -43,7 +43,7 @@ plan-rule b₁ b₂ n₁ n₂ plan room A counts covers = go (tooHigh plan) refl
         (λ h. refused-alike 8 (length t₁) (λ z. omega arith) (room-short room t₁ h)
         (room-short room t₂ (omega (arith, hex-lengths b₁ b₂ n₁ n₂ plan)) ∙ ap (refused 8) (sym (hex-lengths b₁ b₂ n₁ n₂ plan))))
         (λ h. texts t₁ t₂ (room-enough room t₁ h) (room-enough room t₂ (omega (arith, hex-lengths b₁ b₂ n₁ n₂ plan))) (hex-lengths b₁ b₂ n₁ n₂ plan)
-        (λ s. covers .0 (same-data b₁ b₂ n₁ n₂ plan (each-both Low (λ c. c .count ≤ 32) (λ c. (c .address ≤ 65535) × (c .count ≤ 255)) plan (λ c x y. (x, omega arith)) (low-each plan e) counts) s), λ a. equal-text b₁ b₂ n₁ n₂ plan (covers .1 a)))
+        (λ s. covers .0 (same-data b₁ b₂ n₁ n₂ plan (each-both Low (λ c. c .count ≤ 255) (λ c. (c .address ≤ 65535) × (c .count ≤ 255)) plan (λ c x y. (x, y)) (low-each plan e) counts) s), λ a. equal-text b₁ b₂ n₁ n₂ plan (covers .1 a)))
 
     go : (t : Bool) → tooHigh plan ≡ t → Same (cond t (refused 5 0) (inRoom room t₁)) (cond t (refused 5 0) (inRoom room t₂)) A
     go true e = refused-alike 5 0 (λ z. omega arith) refl refl
@@ -64,7 +64,7 @@ two-images b₁ n₁ b₂ n₂ offsets sizes unit room e₁ e₂ =
     A = Agree (blocksOf offsets sizes) b₁ n₁ b₂ n₂
 
     rest : Same (planOutcome b₁ n₁ plan room) (planOutcome b₂ n₂ plan room) A
-    rest = plan-rule b₁ b₂ n₁ n₂ plan room A (plan-counts unit (blocksOf offsets sizes)) (plan-covers b₁ b₂ n₁ n₂ unit (blocksOf offsets sizes))
+    rest = plan-rule b₁ b₂ n₁ n₂ plan room A (each-map (λ c. c .count ≤ 32) (λ c. c .count ≤ 255) plan (λ c h. omega arith) (plan-counts unit (blocksOf offsets sizes))) (plan-covers b₁ b₂ n₁ n₂ unit (blocksOf offsets sizes))
 
     ladder : Bool → Bool → Bool → Outcome → Outcome
     ladder a b c o = cond a (refused 2 0) (cond b (refused 3 4096) (cond c (refused 3 (faultAt offsets sizes)) o))
