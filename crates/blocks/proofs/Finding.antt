@@ -9,7 +9,7 @@ use lib.Dec.{ltb}
 use lib.ListN.{length}
 use lib.Seq.{sets}
 use borrow.Author.Tests.{le-ltb}
-use Rattle.output.specs.Outcome.{Answer}
+use Rattle.outcome.specs.Outcome.{Answer}
 use Rattle.blocks.specs.declared.Blocks.the-variants.{Found, SpanRange, NoRoom}
 use Rattle.blocks.specs.Blocks.{Block, Finding, found, refused, blocksOf, longList, faultAt, spansChecked, blocksFound, Finds}
 use Rattle.blocks.proofs.Running.{blocks-few, short-list}

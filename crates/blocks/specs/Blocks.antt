@@ -7,7 +7,7 @@ use lib.Dec.{eqb, ltb}
 use lib.ListN.{length, getD}
 use lib.Seq.{sets}
 use Rattle.bitvec.specs.Size.{maxBits}
-use Rattle.output.specs.Outcome.{Answer}
+use Rattle.outcome.specs.Outcome.{Answer}
 use Rattle.ordering.specs.Lists.{first}
 use Rattle.ordering.specs.Order.{absent, inOrder}
 use Rattle.blocks.specs.declared.Blocks.{Blocks}

@@ -5,8 +5,8 @@ use mathlib.Core.Bool.{Bool, true, false}
 use mathlib.Core.List.{List}
 use Prim.Native.Nat.{ℕ}
 use mir.Val.{boolByte}
-use Rattle.output.specs.declared.Export.{Export}
-use Rattle.output.specs.Outcome.{Outcome, Answer, answerOf, Exports}
+use Rattle.outcome.specs.declared.Export.{Export}
+use Rattle.outcome.specs.Outcome.{Outcome, Answer, answerOf, Exports}
 use Rattle.capi.specs.Returns.{Returns, flag}
 
 pub gives : {o : Outcome} {e : Export} {before after : List ℕ} {r v : ℕ}

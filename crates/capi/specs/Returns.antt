@@ -3,7 +3,7 @@ use mathlib.Core.Path.{_≡_}
 use mathlib.Core.Bool.{Bool, cond}
 use mathlib.Core.List.{List}
 use Prim.Native.Nat.{ℕ}
-use Rattle.output.specs.Outcome.{Outcome, answer, left}
+use Rattle.outcome.specs.Outcome.{Outcome, answer, left}
 
 -- It returns the number, 0 for a text, stores the value that comes with it, and leaves the buffer as the outcome says.
 pub record Returns (o : Outcome) (r : ℕ) (value : ℕ) (before after : List ℕ) : Type 0 where

@@ -3,7 +3,7 @@
 // length of the text or the value that comes with the refusal.
 ghost use mathlib.Core.Path.{_≡_};
 ghost use lib.ListN.{length};
-ghost use Rattle.output.specs.Outcome.{answerOf};
+ghost use Rattle.outcome.specs.Outcome.{answerOf};
 ghost use Rattle.format_plain.specs.Binary.{binaryOutcome, paddedIn};
 ghost use Rattle.format_plain.specs.Str.{strOutcome};
 ghost use Rattle.format_plain.specs.Readmem.{readmembOutcome, readmemhOutcome};
@@ -17,7 +17,7 @@ ghost use Rattle.intelhex.specs.Hex.{hexOutcome};
 ghost use Rattle.capi.specs.Returns.{Returns, flag};
 use format_dump::DumpOptions;
 use format_list::FormatListOptions;
-use output::Export;
+use outcome::Export;
 
 // Stores the value of an answer and returns its number.
 fn give(export: Export, value: &mut u64) -> u32

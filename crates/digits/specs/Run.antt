@@ -4,8 +4,8 @@ use mathlib.Core.List.{List, [], _∷_, _++_}
 use Prim.Native.Nat.{ℕ, _+_, _*_, _/_, _%_}
 use lib.Dec.{eqb}
 use Rattle.bitvec.specs.Bits.{bitsAt}
-use Rattle.output.specs.declared.Letters.the-variants.{Lower}
-use Rattle.output.specs.Digits.{digitChar}
+use Rattle.numbers.specs.declared.Letters.the-variants.{Lower}
+use Rattle.numbers.specs.Digits.{digitChar}
 use Rattle.output.specs.Pieces.{pieces}
 
 -- The digit of w bits from bit i on, as a character.

@@ -10,7 +10,7 @@ ghost use Rattle.output.specs.Writes.{Writes};
 ghost use Rattle.digits.specs.Base.{baseBits};
 ghost use Rattle.digits.specs.Run.{digitAt, run, shortDigit, hexLine};
 use bitvec::BitOffset;
-use output::Letters;
+use numbers::Letters;
 
 // Stores the digit of `width` bits from `from` on.
 pub fn put_digit(
@@ -25,7 +25,7 @@ pub fn put_digit(
     ensures { λ r. ⌜ Writes (digitAt (now (bytes .entry)) len width (from .0) ∷ []) (now (out .entry)) at (now (out .exit)) r ⌝ }
 {
     let digit = bitvec::read_bits(bytes, len, from, width);
-    output::put(out, at, output::digit_char(Letters::Lower, digit))
+    output::put(out, at, numbers::digit_char(Letters::Lower, digit))
 }
 
 // Stores `count` digits of `width` bits each, from `from` on.

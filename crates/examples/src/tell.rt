@@ -1,7 +1,7 @@
 // What an example expects, and whether it came.
 ghost use Prim.Native.Nat.{_≤_};
 ghost use lib.ListN.{length};
-use output::Export;
+use outcome::Export;
 
 // What stands in the output buffer before a call.
 pub(crate) const OLD: u8 = 90;

@@ -10,11 +10,11 @@ use lib.ListN.{length, length-append}
 use borrow.Author.Tests.{ne-eqb}
 use Rattle.bitvec.specs.Bits.{byteAt}
 use Rattle.bitvec.specs.Size.{ceilDiv}
-use Rattle.output.specs.declared.Letters.the-variants.{Lower}
+use Rattle.numbers.specs.declared.Letters.the-variants.{Lower}
 use Rattle.output.specs.Ascii.{ascii}
-use Rattle.output.specs.Digits.{byteText, digitCount}
+use Rattle.numbers.specs.Digits.{byteText, digitCount}
 use Rattle.output.specs.Pieces.{pieces, every}
-use Rattle.output.proofs.Digits.{number-length, padded-length, count-rises}
+use Rattle.numbers.proofs.Digits.{number-length, padded-length, count-rises}
 use Rattle.output.proofs.Joined.{joined-length, between-length, every-length}
 use Rattle.format_bytes.specs.declared.bytes.LineStart.the-variants.{Newline, Comment}
 use Rattle.format_bytes.specs.Bytes.{byteIn, byteList}

@@ -5,9 +5,9 @@ use Prim.Native.Nat.{ℕ}
 use lib.Dec.{eqb}
 use Rattle.bitvec.specs.Bits.{byteAt}
 use Rattle.bitvec.specs.Size.{ceilDiv}
-use Rattle.output.specs.declared.Letters.the-variants.{Lower}
+use Rattle.numbers.specs.declared.Letters.the-variants.{Lower}
 use Rattle.output.specs.Ascii.{ascii}
-use Rattle.output.specs.Digits.{byteText, numberText}
+use Rattle.numbers.specs.Digits.{byteText, numberText}
 use Rattle.output.specs.Pieces.{joined, every}
 
 -- A radix other than 10 and 16 is outside its range.

@@ -5,10 +5,10 @@ use Prim.Native.Nat.{ℕ, _-_}
 use Prim.Native.Char.{code}
 use lib.Dec.{eqb}
 use Rattle.bitvec.specs.Size.{badSize, ceilDiv}
-use Rattle.output.specs.declared.Letters.the-variants.{Lower}
+use Rattle.numbers.specs.declared.Letters.the-variants.{Lower}
 use Rattle.output.specs.Ascii.{ascii}
-use Rattle.output.specs.Digits.{digitCount, numberText, padded}
-use Rattle.output.specs.Outcome.{Outcome, refused, inRoom}
+use Rattle.numbers.specs.Digits.{digitCount, numberText, padded}
+use Rattle.outcome.specs.Outcome.{Outcome, refused, inRoom}
 use Rattle.format_bytes.specs.Bytes.{badRadix, byteList}
 
 -- The comment with the address k, filled with zeros to a width.

@@ -4,7 +4,7 @@ use mathlib.Core.List.{List}
 use Prim.Native.Nat.{ℕ}
 use Rattle.bitvec.specs.Size.{badSize}
 use Rattle.output.specs.Ascii.{ascii}
-use Rattle.output.specs.Outcome.{Outcome, refused, tooLong, inRoom}
+use Rattle.outcome.specs.Outcome.{Outcome, refused, tooLong, inRoom}
 use Rattle.format_bytes.specs.Bytes.{badRadix, byteList}
 
 unfoldable pub separatorText : ℕ → List ℕ → List ℕ → ℕ → List ℕ

@@ -11,7 +11,7 @@ ghost use Rattle.format_bytes.specs.Bytes.{badRadix, byteIn, byteList};
 ghost use Rattle.format_bytes.specs.CArray.{addressComment};
 ghost use Rattle.format_bytes.specs.Start.{lineStart};
 use bitvec::BitOffset;
-use output::Letters;
+use numbers::Letters;
 
 // How a line of the list starts: with the newline alone, or with the newline and a comment that has
 // the address in so many digits.
@@ -39,7 +39,7 @@ fn decimal_length(image: &[u8], bits: usize, count: usize) -> usize
     let mut k = 0;
     while k < count {
         let byte = bitvec::read_byte(image, bits, BitOffset(k * 8));
-        total += output::digit_count(byte as u64, 10);
+        total += numbers::digit_count(byte as u64, 10);
         k += 1;
     }
     total
@@ -79,10 +79,10 @@ fn put_byte_in(out: &mut [u8], at: usize, radix: usize, byte: u8) -> usize
     ensures { λ r. ⌜ Writes (byteIn radix byte) (now (out .entry)) at (now (out .exit)) r ⌝ }
 {
     if radix == 10 {
-        return output::put_number(out, at, Letters::Lower, byte as u64, 10);
+        return numbers::put_number(out, at, Letters::Lower, byte as u64, 10);
     }
     let next = output::put_all(out, at, b"0x");
-    output::put_byte(out, next, Letters::Lower, byte)
+    numbers::put_byte(out, next, Letters::Lower, byte)
 }
 
 // Stores the comment with the address `k`.
@@ -91,7 +91,7 @@ pub(crate) fn put_comment(out: &mut [u8], at: usize, width: usize, k: usize) -> 
     ensures { λ r. ⌜ Writes (addressComment width k) (now (out .entry)) at (now (out .exit)) r ⌝ }
 {
     let mut next = output::put_all(out, at, b"\t/* 0x");
-    next = output::put_padded(out, next, Letters::Lower, k as u64, 16, b'0', width);
+    next = numbers::put_padded(out, next, Letters::Lower, k as u64, 16, b'0', width);
     output::put_all(out, next, b" */ ")
 }
 

@@ -4,11 +4,11 @@ ghost use Prim.Native.Nat.{_+_, _≤_, _<_, _^_};
 ghost use lib.ListN.{length};
 ghost use Rattle.bitvec.specs.Size.{ceilDiv};
 ghost use Rattle.output.specs.Writes.{Writes};
-ghost use Rattle.output.specs.Outcome.{Exports};
+ghost use Rattle.outcome.specs.Outcome.{Exports};
 ghost use Rattle.format_bytes.specs.CArray.{addressWidth, cArrayText, cArrayOutcome};
 use crate::bytes;
 use crate::bytes::LineStart;
-use output::Export;
+use outcome::Export;
 
 // The length of the array of `count` bytes whose addresses have `width` digits.
 fn c_array_length(image: &[u8], bits: usize, radix: usize, count: usize, width: usize) -> usize
@@ -59,7 +59,7 @@ pub fn format_c_array(image: &[u8], bits: usize, radix: usize, out: &mut [u8]) -
         return Export::EmptyImage;
     }
     let count = bitvec::parts(bits, 8);
-    let width = output::digit_count((count - 1) as u64, 16);
+    let width = numbers::digit_count((count - 1) as u64, 16);
     let needed = c_array_length(image, bits, radix, count, width);
     if out.len() < needed {
         return Export::NoRoom(needed);

@@ -1,10 +1,10 @@
 // The list of an image's bytes with a separator (the Rust's `format_separator`).
 ghost use lib.ListN.{length};
-ghost use Rattle.output.specs.Outcome.{Exports};
+ghost use Rattle.outcome.specs.Outcome.{Exports};
 ghost use Rattle.format_bytes.specs.Separator.{separatorOutcome};
 use crate::bytes;
 use crate::bytes::LineStart;
-use output::Export;
+use outcome::Export;
 
 // The bytes in radix 10 or 16, with a separator of at most 256 bytes and sixteen bytes a line.
 pub fn format_separator(
@@ -22,7 +22,7 @@ pub fn format_separator(
     if bytes::bad_radix(radix) {
         return Export::OptionRange;
     }
-    if output::too_long(separator) {
+    if outcome::too_long(separator) {
         return Export::OptionRange;
     }
     let count = bitvec::parts(bits, 8);

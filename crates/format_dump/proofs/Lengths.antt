@@ -8,10 +8,10 @@ use native.Mathlib.Omega.{arith}
 use lib.ListN.{length, length-append}
 use borrow.Author.Tests.{lt-ltb, le-ltb}
 use Rattle.output.specs.Ascii.{ascii}
-use Rattle.output.specs.Digits.{digitCount}
+use Rattle.numbers.specs.Digits.{digitCount}
 use Rattle.output.specs.Pieces.{pieces, joined, every}
 use Rattle.output.proofs.Order.{by-order}
-use Rattle.output.proofs.Digits.{number-length, padded-length}
+use Rattle.numbers.proofs.Digits.{number-length, padded-length}
 use Rattle.output.proofs.Pieces.{pieces-length}
 use Rattle.output.proofs.Joined.{joined-length, every-length, between-length}
 use Rattle.format_dump.specs.Dump.{dumpDigit, dumpChar, dumpByte, dumpLine, dumpLines, dumpText}

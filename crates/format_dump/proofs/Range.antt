@@ -7,8 +7,8 @@ use Prim.Native.Nat.{ℕ, _≤_, _<_}
 use native.Mathlib.Omega.{arith}
 use lib.Dec.{eqb}
 use borrow.Author.Tests.{eqb-true, not-true}
-use Rattle.output.specs.Outcome.{outside}
-use Rattle.output.proofs.Outcome.{inside}
+use Rattle.outcome.specs.Outcome.{outside}
+use Rattle.outcome.proofs.Outcome.{inside}
 use Rattle.format_dump.specs.declared.DumpOptions.{DumpOptions}
 use Rattle.format_dump.specs.Dump.{inRange}
 

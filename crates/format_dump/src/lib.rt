@@ -4,15 +4,15 @@ ghost use mathlib.Core.Path.{_≡_};
 ghost use mathlib.Core.List.{List, [], _∷_};
 ghost use Prim.Native.Nat.{ℕ, _+_, _-_, _*_, _/_, _≤_, _<_, _^_};
 ghost use lib.ListN.{length};
-ghost use Rattle.output.specs.Digits.{digitCount};
+ghost use Rattle.numbers.specs.Digits.{digitCount};
 ghost use Rattle.output.specs.Pieces.{pieces, joined, leading, every};
 ghost use Rattle.output.specs.Ascii.{ascii};
 ghost use Rattle.output.specs.Writes.{Writes};
-ghost use Rattle.output.specs.Outcome.{Exports};
+ghost use Rattle.outcome.specs.Outcome.{Exports};
 ghost use Rattle.format_dump.specs.Dump.{inRange, dumpDigit, printed, dumpChar, dumpByte, dumpLine, dumpLines, dumpText, dumpOutcome, bindump, hexdump};
 use bitvec::BitOffset;
-use output::Export;
-use output::Letters;
+use numbers::Letters;
+use outcome::Export;
 
 // What a dump looks like: the bits of a digit, those of a byte, and the bytes of a line.
 pub struct DumpOptions {
@@ -43,7 +43,7 @@ impl DumpOptions {
         if options.byte_bits != 8 {
             return false;
         }
-        if output::outside(1, 64, options.bytes_per_line) {
+        if outcome::outside(1, 64, options.bytes_per_line) {
             return false;
         }
         if options.digit_bits == 1 {
@@ -63,7 +63,7 @@ fn dump_digit(image: &[u8], bits: usize, width: usize, from: BitOffset) -> u8
         return b'.';
     }
     let digit = bitvec::read_bits(image, bits, BitOffset(first), width);
-    output::digit_char(Letters::Lower, digit)
+    numbers::digit_char(Letters::Lower, digit)
 }
 
 // The character that a byte is printed as.
@@ -196,7 +196,7 @@ fn put_line(
     ensures { λ r. ⌜ Writes (dumpLine (now (image .entry)) bits width count address first) (now (out .entry)) at (now (out .exit)) r ⌝ }
 {
     let mut next = output::put(out, at, b' ');
-    next = output::put_padded(out, next, Letters::Lower, first as u64, 16, b'0', address);
+    next = numbers::put_padded(out, next, Letters::Lower, first as u64, 16, b'0', address);
     next = output::put_all(out, next, b" | ");
     next = put_digit_column(out, next, image, bits, width, first, count);
     next = output::put_all(out, next, b"| ");
@@ -252,7 +252,7 @@ pub fn format_dump(image: &[u8], bits: usize, options: DumpOptions, out: &mut [u
     let width = options.digit_bits;
     let count = options.bytes_per_line;
     let lines = dump_lines(bits, count);
-    let address = output::digit_count(((lines - 1) * count) as u64, 16);
+    let address = numbers::digit_count(((lines - 1) * count) as u64, 16);
     let needed = lines * line_length(width, count, address);
     if out.len() < needed {
         return Export::NoRoom(needed);

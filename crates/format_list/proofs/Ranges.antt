@@ -9,8 +9,8 @@ use native.Mathlib.Omega.{arith}
 use lib.Dec.{eqb, ltb}
 use lib.ListN.{length}
 use borrow.Author.Tests.{eqb-true, eqb-false, not-false}
-use Rattle.output.specs.Outcome.{outside, tooLong}
-use Rattle.output.proofs.Outcome.{inside, short}
+use Rattle.outcome.specs.Outcome.{outside, tooLong}
+use Rattle.outcome.proofs.Outcome.{inside, short}
 use Rattle.digits.specs.Base.{baseBits}
 use Rattle.format_list.specs.declared.FormatListOptions.{FormatListOptions}
 use Rattle.format_list.specs.List.{badList}

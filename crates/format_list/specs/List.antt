@@ -6,7 +6,7 @@ use lib.Dec.{eqb, ltb}
 use lib.ListN.{length}
 use Rattle.bitvec.specs.Size.{badSize, ceilDiv}
 use Rattle.output.specs.Pieces.{joined}
-use Rattle.output.specs.Outcome.{Outcome, refused, outside, tooLong, inRoom}
+use Rattle.outcome.specs.Outcome.{Outcome, refused, outside, tooLong, inRoom}
 use Rattle.digits.specs.Base.{baseBits}
 use Rattle.digits.specs.Run.{run}
 use Rattle.format_list.specs.declared.FormatListOptions.{FormatListOptions}

@@ -8,11 +8,11 @@ ghost use lib.ListN.{length};
 ghost use Rattle.bitvec.specs.Size.{ceilDiv};
 ghost use Rattle.output.specs.Pieces.{pieces, joined, leading};
 ghost use Rattle.output.specs.Writes.{Writes};
-ghost use Rattle.output.specs.Outcome.{tooLong, Exports};
+ghost use Rattle.outcome.specs.Outcome.{tooLong, Exports};
 ghost use Rattle.digits.specs.Base.{baseBits};
 ghost use Rattle.format_list.specs.List.{groupBits, groupText, betweenGroups, listText, badList, listOutcome};
 use bitvec::BitOffset;
-use output::Export;
+use outcome::Export;
 
 // The options of a list but its strings, which are lent beside it.
 pub struct FormatListOptions {
@@ -35,16 +35,16 @@ fn no_place(groups_per_group2: usize, between2: &[u8]) -> bool
 fn long_string(before: &[u8], after: &[u8], between: &[u8], between2: &[u8]) -> bool
     ensures { λ r. ⌜ r ≡ tooLong (now (before .entry)) || (tooLong (now (after .entry)) || (tooLong (now (between .entry)) || tooLong (now (between2 .entry)))) ⌝ }
 {
-    if output::too_long(before) {
+    if outcome::too_long(before) {
         return true;
     }
-    if output::too_long(after) {
+    if outcome::too_long(after) {
         return true;
     }
-    if output::too_long(between) {
+    if outcome::too_long(between) {
         return true;
     }
-    output::too_long(between2)
+    outcome::too_long(between2)
 }
 
 // Whether an option is outside its range.
@@ -60,7 +60,7 @@ fn bad_list(
     if digits::base_bits(options.base) == 0 {
         return true;
     }
-    if output::outside(1, 64, options.digits_per_group) {
+    if outcome::outside(1, 64, options.digits_per_group) {
         return true;
     }
     if 65535 < options.groups_per_group2 {

@@ -9,9 +9,9 @@ use lib.Dec.{eqb}
 use lib.ListN.{length, length-append}
 use Rattle.bitvec.specs.Size.{ceilDiv}
 use Rattle.output.specs.Ascii.{ascii}
-use Rattle.output.specs.Digits.{byteText, digitCount}
+use Rattle.numbers.specs.Digits.{byteText, digitCount}
 use Rattle.output.specs.Pieces.{pieces, every}
-use Rattle.output.proofs.Digits.{number-length, padded-length, count-rises}
+use Rattle.numbers.proofs.Digits.{number-length, padded-length, count-rises}
 use Rattle.output.proofs.Pieces.{pieces-length}
 use Rattle.output.proofs.Joined.{every-length}
 use Rattle.digits.proofs.Run.{line-length}

@@ -5,7 +5,7 @@ use Prim.Native.Nat.{ℕ, _+_, _*_, _/_}
 use Rattle.bitvec.specs.Size.{badSize, ceilDiv}
 use Rattle.output.specs.Ascii.{ascii}
 use Rattle.output.specs.Pieces.{pieces, every}
-use Rattle.output.specs.Outcome.{Outcome, refused, outside, inRoom}
+use Rattle.outcome.specs.Outcome.{Outcome, refused, outside, inRoom}
 use Rattle.digits.specs.Run.{hexLine}
 use Rattle.digits.specs.Parts.{partBits}
 

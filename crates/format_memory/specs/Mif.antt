@@ -6,11 +6,11 @@ use Prim.Native.Char.{code}
 use lib.Dec.{eqb}
 use Rattle.bitvec.specs.Bits.{byteAt}
 use Rattle.bitvec.specs.Size.{badSize, ceilDiv}
-use Rattle.output.specs.declared.Letters.the-variants.{Lower, Upper}
+use Rattle.numbers.specs.declared.Letters.the-variants.{Lower, Upper}
 use Rattle.output.specs.Ascii.{ascii}
-use Rattle.output.specs.Digits.{byteText, digitCount, numberText, padded}
+use Rattle.numbers.specs.Digits.{byteText, digitCount, numberText, padded}
 use Rattle.output.specs.Pieces.{pieces}
-use Rattle.output.specs.Outcome.{Outcome, refused, inRoom}
+use Rattle.outcome.specs.Outcome.{Outcome, refused, inRoom}
 
 -- The line of byte k: its address, filled with spaces to a width, and the byte.
 unfoldable pub mifLine : List ℕ → ℕ → ℕ → ℕ → List ℕ

@@ -6,10 +6,10 @@ ghost use lib.ListN.{length};
 ghost use Rattle.bitvec.specs.Size.{ceilDiv};
 ghost use Rattle.output.specs.Pieces.{pieces};
 ghost use Rattle.output.specs.Writes.{Writes};
-ghost use Rattle.output.specs.Outcome.{Exports};
+ghost use Rattle.outcome.specs.Outcome.{Exports};
 ghost use Rattle.format_memory.specs.Logisim.{chunkText, chunkAt, logisimText, logisimOutcome};
 use bitvec::BitOffset;
-use output::Export;
+use outcome::Export;
 
 // The length of a chunk of `count` bits from `from` on, whatever the image.
 fn chunk_length(from: usize, count: usize) -> usize
@@ -82,7 +82,7 @@ pub fn format_logisim(image: &[u8], bits: usize, bits_per_chunk: usize, out: &mu
     if bitvec::bad_size(image, bits) {
         return Export::ImageSize;
     }
-    if output::outside(1, 4096, bits_per_chunk) {
+    if outcome::outside(1, 4096, bits_per_chunk) {
         return Export::OptionRange;
     }
     let chunks = bitvec::parts(bits, bits_per_chunk);

@@ -4,21 +4,21 @@ ghost use mathlib.Core.List.{List};
 ghost use Prim.Native.Nat.{ℕ, _+_, _-_, _≤_, _<_, _^_};
 ghost use lib.ListN.{length};
 ghost use Rattle.bitvec.specs.Size.{ceilDiv};
-ghost use Rattle.output.specs.Digits.{digitCount};
+ghost use Rattle.numbers.specs.Digits.{digitCount};
 ghost use Rattle.output.specs.Pieces.{pieces};
 ghost use Rattle.output.specs.Writes.{Writes};
-ghost use Rattle.output.specs.Outcome.{Exports};
+ghost use Rattle.outcome.specs.Outcome.{Exports};
 ghost use Rattle.format_memory.specs.Mif.{mifLine, mifText, mifOutcome};
 use bitvec::BitOffset;
-use output::Export;
-use output::Letters;
+use numbers::Letters;
+use outcome::Export;
 
 // The length of the file of `count` bytes whose addresses have `width` digits.
 fn mif_length(count: usize, width: usize) -> usize
     requires { ⌜ (count ≤ 2 ^ 24) × (width ≡ digitCount 16 (count - 1)) ⌝ }
     ensures { λ r. ⌜ ((bytes : List ℕ) (len : ℕ) → count ≡ ceilDiv len 8 → length (mifText bytes len) ≡ r) ⌝ }
 {
-    let depth = output::digit_count(count as u64, 10);
+    let depth = numbers::digit_count(count as u64, 10);
     depth + count * (width + 7) + 79
 }
 
@@ -36,9 +36,9 @@ fn put_mif_line(
 {
     let byte = bitvec::read_byte(image, bits, BitOffset(k * 8));
     let mut next = output::put(out, at, b' ');
-    next = output::put_padded(out, next, Letters::Upper, k as u64, 16, b' ', width);
+    next = numbers::put_padded(out, next, Letters::Upper, k as u64, 16, b' ', width);
     next = output::put_all(out, next, b": ");
-    next = output::put_byte(out, next, Letters::Upper, byte);
+    next = numbers::put_byte(out, next, Letters::Upper, byte);
     output::put_all(out, next, b";\n")
 }
 
@@ -69,7 +69,7 @@ fn write_mif(image: &[u8], bits: usize, count: usize, width: usize, out: &mut [u
     ensures { λ r. ⌜ Writes (mifText (now (image .entry)) bits) (now (out .entry)) 0 (now (out .exit)) r ⌝ }
 {
     let mut next = output::put_all(out, 0, b"DEPTH = ");
-    next = output::put_number(out, next, Letters::Lower, count as u64, 10);
+    next = numbers::put_number(out, next, Letters::Lower, count as u64, 10);
     next = output::put_all(
         out,
         next,
@@ -90,7 +90,7 @@ pub fn format_mif(image: &[u8], bits: usize, out: &mut [u8]) -> Export
         return Export::EmptyImage;
     }
     let count = bitvec::parts(bits, 8);
-    let width = output::digit_count((count - 1) as u64, 16);
+    let width = numbers::digit_count((count - 1) as u64, 16);
     let needed = mif_length(count, width);
     if out.len() < needed {
         return Export::NoRoom(needed);

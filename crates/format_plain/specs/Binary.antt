@@ -6,7 +6,7 @@ use lib.Dec.{eqb}
 use Rattle.bitvec.specs.Bits.{byteAt}
 use Rattle.bitvec.specs.Size.{badSize, ceilDiv}
 use Rattle.output.specs.Pieces.{pieces}
-use Rattle.output.specs.Outcome.{Outcome, text, refused, inRoom}
+use Rattle.outcome.specs.Outcome.{Outcome, text, refused, inRoom}
 
 -- The image's bytes, the last one filled with zeros.
 unfoldable pub binaryText : List ℕ → ℕ → List ℕ

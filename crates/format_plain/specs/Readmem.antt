@@ -5,7 +5,7 @@ use Prim.Native.Nat.{ℕ, _*_}
 use Rattle.bitvec.specs.Size.{badSize, ceilDiv}
 use Rattle.output.specs.Ascii.{ascii}
 use Rattle.output.specs.Pieces.{pieces}
-use Rattle.output.specs.Outcome.{Outcome, refused, outside, inRoom}
+use Rattle.outcome.specs.Outcome.{Outcome, refused, outside, inRoom}
 use Rattle.digits.specs.Run.{run, hexLine}
 use Rattle.digits.specs.Parts.{partBits}
 use Rattle.format_plain.specs.declared.readmem.Readmem.{Readmem}

@@ -3,7 +3,7 @@ use mathlib.Core.Bool.{cond}
 use mathlib.Core.List.{List}
 use Prim.Native.Nat.{ℕ}
 use Rattle.bitvec.specs.Size.{badSize, ceilDiv}
-use Rattle.output.specs.Outcome.{Outcome, refused, outside, inRoom}
+use Rattle.outcome.specs.Outcome.{Outcome, refused, outside, inRoom}
 use Rattle.digits.specs.Run.{run}
 
 -- Digits of w bits each, the last one filled with zeros.

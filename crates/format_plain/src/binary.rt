@@ -4,10 +4,10 @@ ghost use Prim.Native.Nat.{_≤_, _<_, _^_};
 ghost use lib.ListN.{length};
 ghost use Rattle.bitvec.specs.Size.{ceilDiv};
 ghost use Rattle.output.specs.Writes.{Writes};
-ghost use Rattle.output.specs.Outcome.{Exports};
+ghost use Rattle.outcome.specs.Outcome.{Exports};
 ghost use Rattle.format_plain.specs.Binary.{binaryText, binaryOutcome, paddedIn};
 use bitvec::BitOffset;
-use output::Export;
+use outcome::Export;
 
 // What `format_binary` answers: the export, and whether padding was added, where the Rust warns.
 pub struct BinaryExport {

@@ -1,9 +1,9 @@
 // The digits of an image (the Rust's `format_str`, `format_binstr` and `format_hexstr`).
 ghost use lib.ListN.{length};
-ghost use Rattle.output.specs.Outcome.{Exports};
+ghost use Rattle.outcome.specs.Outcome.{Exports};
 ghost use Rattle.format_plain.specs.Str.{strOutcome};
 use bitvec::BitOffset;
-use output::Export;
+use outcome::Export;
 
 // Digits of 1 to 5 bits, the last one filled with zeros.
 pub fn format_str(image: &[u8], bits: usize, bits_per_digit: usize, out: &mut [u8]) -> Export
@@ -12,7 +12,7 @@ pub fn format_str(image: &[u8], bits: usize, bits_per_digit: usize, out: &mut [u
     if bitvec::bad_size(image, bits) {
         return Export::ImageSize;
     }
-    if output::outside(1, 5, bits_per_digit) {
+    if outcome::outside(1, 5, bits_per_digit) {
         return Export::OptionRange;
     }
     let count = bitvec::parts(bits, bits_per_digit);

@@ -5,10 +5,10 @@ ghost use Prim.Native.Nat.{ℕ, _+_, _≤_, _<_, _^_};
 ghost use lib.ListN.{length};
 ghost use Rattle.bitvec.specs.Size.{ceilDiv};
 ghost use Rattle.output.specs.Writes.{Writes};
-ghost use Rattle.output.specs.Outcome.{Exports};
+ghost use Rattle.outcome.specs.Outcome.{Exports};
 ghost use Rattle.format_plain.specs.Readmem.{lineText, readmemText, readmemOutcome, readmembOutcome, readmemhOutcome};
 use bitvec::BitOffset;
-use output::Export;
+use outcome::Export;
 
 // Which of the two files: a digit for each bit, or hexadecimal digits.
 pub enum Readmem {
@@ -87,7 +87,7 @@ fn format_readmem(kind: Readmem, image: &[u8], bits: usize, width: usize, out: &
     if bitvec::bad_size(image, bits) {
         return Export::ImageSize;
     }
-    if output::outside(1, 4096, width) {
+    if outcome::outside(1, 4096, width) {
         return Export::OptionRange;
     }
     let needed = readmem_length(kind, bits, width);

@@ -3,7 +3,7 @@ use mathlib.Core.Bool.{cond}
 use mathlib.Core.List.{List}
 use Prim.Native.Nat.{ℕ}
 use Rattle.bitvec.specs.Size.{badSize}
-use Rattle.output.specs.Outcome.{Outcome, refused, outside, inRoom}
+use Rattle.outcome.specs.Outcome.{Outcome, refused, outside, inRoom}
 use Rattle.blocks.specs.Blocks.{blocksOf, spansChecked}
 use Rattle.hex_records.specs.Plan.{Chunk, hexPlan, tooHigh}
 use Rattle.hex_records.specs.Text.{hexText}

@@ -6,8 +6,8 @@ use Prim.Native.Nat.{ℕ, _+_, _*_, _<_}
 use lib.ListN.{length, take}
 use Rattle.bitvec.specs.Bits.{bitAt}
 use Rattle.bitvec.specs.Size.{ceilDiv}
-use Rattle.output.specs.declared.Export.{Export}
-use Rattle.output.specs.Outcome.{Outcome, text, refused, answerOf}
+use Rattle.outcome.specs.declared.Export.{Export}
+use Rattle.outcome.specs.Outcome.{Outcome, text, refused, answerOf}
 use Rattle.ordering.specs.Lists.{Each}
 use Rattle.blocks.specs.Blocks.{Block}
 

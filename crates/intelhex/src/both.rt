@@ -1,11 +1,11 @@
 // Two images exported with the same spans, unit and room length: demand 3 as one contract.
 use crate::hex::format_intelhex;
-use output::Export;
+use outcome::Export;
 ghost use mathlib.Core.Path.{_≡_};
 ghost use mathlib.Core.Bool.{false};
 ghost use lib.ListN.{length};
 ghost use Rattle.bitvec.specs.Size.{badSize};
-ghost use Rattle.output.specs.Outcome.{Exports};
+ghost use Rattle.outcome.specs.Outcome.{Exports};
 ghost use Rattle.blocks.specs.Blocks.{blocksOf};
 ghost use Rattle.intelhex.specs.Hex.{hexOutcome};
 ghost use Rattle.intelhex.specs.TwoImages.{Agree, SameAnswers};

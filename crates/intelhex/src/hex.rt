@@ -4,11 +4,11 @@ use crate::measure::too_high;
 use blocks::Blocks;
 use blocks::get_blocks;
 use hex_records::write_hex;
-use output::Export;
+use outcome::Export;
 ghost use mathlib.Core.Path.{_≡_};
 ghost use Prim.Native.Nat.{_≤_, _<_};
 ghost use lib.ListN.{length};
-ghost use Rattle.output.specs.Outcome.{Exports};
+ghost use Rattle.outcome.specs.Outcome.{Exports};
 ghost use Rattle.hex_records.specs.Plan.{hexPlan, blocksAt};
 ghost use Rattle.intelhex.specs.Hex.{planOutcome, hexOutcome};
 
@@ -56,7 +56,7 @@ pub fn format_intelhex(
     if bitvec::bad_size(image, bits) {
         return Export::ImageSize;
     }
-    if output::outside(1, 64, address_unit) {
+    if outcome::outside(1, 64, address_unit) {
         return Export::OptionRange;
     }
     let mut block_offsets = words();

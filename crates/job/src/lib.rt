@@ -2,17 +2,17 @@
 // exported as Intel HEX.
 use bitvec::parts;
 use intelhex::format_intelhex;
-use output::Export;
-use output::Letters;
+use numbers::Letters;
+use numbers::put_number;
+use outcome::Export;
 use output::put_all;
-use output::put_number;
 ghost use mathlib.Core.Path.{_≡_};
 ghost use mathlib.Core.Bool.{false};
 ghost use Prim.Native.Nat.{_+_, _*_, _≤_, _<_, _^_};
 ghost use lib.ListN.{length, getD, take, drop};
 ghost use Rattle.bitvec.specs.Size.{ceilDiv};
 ghost use Rattle.output.specs.Writes.{Writes};
-ghost use Rattle.output.specs.Outcome.{refused, Exports};
+ghost use Rattle.outcome.specs.Outcome.{refused, Exports};
 ghost use Rattle.intelhex.specs.Hex.{hexOutcome};
 ghost use Rattle.job.specs.Job.{word, column, badJob, jobOutcome, printed};
 

@@ -5,9 +5,9 @@ use mathlib.Core.List.{map, flatMap}
 use Rattle.bitvec.specs.Bits.{bitAt, bitsAt}
 use Rattle.bitvec.specs.Size.{badSize, ceilDiv}
 use Rattle.output.specs.Ascii.{ascii}
-use Rattle.output.specs.Digits.{digitChar, byteText}
+use Rattle.numbers.specs.Digits.{digitChar, byteText}
 use Rattle.output.specs.Pieces.{pieces, leading, joined, every}
-use Rattle.output.specs.Outcome.{text, outside, tooLong}
+use Rattle.outcome.specs.Outcome.{text, outside, tooLong}
 use Rattle.digits.specs.Run.{digitAt, run, shortDigit, hexLine}
 use Rattle.digits.specs.Parts.{partBits}
 use Rattle.digits.specs.Base.{baseBits}

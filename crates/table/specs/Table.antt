@@ -3,7 +3,7 @@
 use mathlib.Core.List.{List, [], _∷_}
 use Prim.Native.Nat.{ℕ}
 use Prim.Native.String.{String}
-use Rattle.output.specs.Outcome.{Outcome}
+use Rattle.outcome.specs.Outcome.{Outcome}
 use Rattle.intelhex.specs.Hex.{hexOutcome}
 use Rattle.format_plain.specs.Str.{strOutcome}
 use Rattle.format_plain.specs.Readmem.{readmembOutcome, readmemhOutcome}

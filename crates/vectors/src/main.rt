@@ -8,7 +8,7 @@ ghost use mathlib.Core.Path.{_≡_};
 ghost use Rattle.io.specs.Counts.{Counts};
 use format_dump::DumpOptions;
 use format_list::FormatListOptions;
-use output::Export;
+use outcome::Export;
 
 // What stands in the output buffer before a call.
 const OLD: u8 = 90;

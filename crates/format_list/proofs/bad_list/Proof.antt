@@ -5,7 +5,7 @@ use mathlib.Core.Bool.{false}
 use lib.Dec.{eqb}
 use borrow.Author.Tests.{eq-eqb, ne-eqb, lt-ltb, le-ltb}
 use borrow.Author.Needs.{needs}
-use Rattle.output.specs.Outcome.{outside}
+use Rattle.outcome.specs.Outcome.{outside}
 use Rattle.digits.specs.Base.{baseBits}
 use Rattle.format_list.specs.List.{badList}
 use Rattle.format_list.proofs.bad_list.Statement.{statement}

@@ -9,7 +9,7 @@ use lib.ListN.{length}
 use borrow.Author.Needs.{needs}
 use Rattle.bitvec.specs.Size.{badSize, ceilDiv}
 use Rattle.bitvec.proofs.Size.{size-good, ceil-reach, ceil-most}
-use Rattle.output.proofs.Outcome.{exports-text, exports-no-room}
+use Rattle.outcome.proofs.Outcome.{exports-text, exports-no-room}
 use Rattle.digits.proofs.Base.{base-small}
 use Rattle.format_list.specs.List.{groupBits, listText, badList, listOutcome}
 use Rattle.format_list.proofs.Lengths.{list-parts}

@@ -6,7 +6,7 @@ use Prim.Native.Nat.{_+_, _-_, _*_, _%_, _≤_}
 use native.Mathlib.Omega.{arith}
 use lib.ListN.{length}
 use Rattle.bitvec.specs.Bits.{bitsAt}
-use Rattle.output.specs.Digits.{byteText}
+use Rattle.numbers.specs.Digits.{byteText}
 use Rattle.output.specs.Writes.{Writes}
 use Rattle.output.proofs.Writes.{writes-nothing, writes-then}
 use Rattle.hex_records.specs.Text.{bytesFrom, total, hexBytes}

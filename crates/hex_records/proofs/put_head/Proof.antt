@@ -2,7 +2,7 @@
 -- Assumes nothing.
 use mathlib.Core.List.{flatMap}
 use native.Mathlib.Omega.{arith}
-use Rattle.output.specs.Digits.{byteText}
+use Rattle.numbers.specs.Digits.{byteText}
 use Rattle.output.proofs.Writes.{writes-then, writes-length}
 use Rattle.hex_records.specs.Text.{hexBytes}
 use borrow.Author.Needs.{needs}

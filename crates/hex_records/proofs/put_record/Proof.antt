@@ -4,8 +4,8 @@ use mathlib.Core.Path.{_≡_}
 use mathlib.Core.List.{List, [], _∷_, _++_}
 use Prim.Native.Nat.{ℕ, _+_, _*_, _/_, _%_}
 use native.Mathlib.Omega.{arith}
-use Rattle.output.specs.declared.Letters.the-variants.{Upper}
-use Rattle.output.specs.Digits.{byteText}
+use Rattle.numbers.specs.declared.Letters.the-variants.{Upper}
+use Rattle.numbers.specs.Digits.{byteText}
 use Rattle.output.specs.Writes.{Writes}
 use Rattle.output.proofs.Writes.{writes-then, writes-length}
 use Rattle.hex_records.specs.Plan.{Chunk}

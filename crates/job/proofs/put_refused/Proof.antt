@@ -1,8 +1,8 @@
 -- `job::put_refused` meets its contract: the writers one after another.
 -- Assumes nothing.
 use native.Mathlib.Omega.{arith}
-use Rattle.output.specs.declared.Letters.the-variants.{Lower}
-use Rattle.output.proofs.Digits.{count-last, number-length}
+use Rattle.numbers.specs.declared.Letters.the-variants.{Lower}
+use Rattle.numbers.proofs.Digits.{count-last, number-length}
 use Rattle.output.proofs.Writes.{writes-then, writes-length}
 use borrow.Author.Needs.{needs}
 use Rattle.job.proofs.put_refused.Statement.{statement}

@@ -8,7 +8,7 @@ use lib.ListN.{length, length-append}
 use borrow.Author.Needs.{needs}
 use Rattle.bitvec.specs.Bits.{byteAt}
 use Rattle.output.specs.Pieces.{pieces}
-use Rattle.output.proofs.Digits.{count-small}
+use Rattle.numbers.proofs.Digits.{count-small}
 use Rattle.output.proofs.Pieces.{pieces-none, pieces-next}
 use Rattle.format_bytes.specs.Bytes.{byteIn}
 use Rattle.format_bytes.proofs.Lengths as lengths

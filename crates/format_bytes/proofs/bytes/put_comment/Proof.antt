@@ -4,9 +4,9 @@ use Prim.Native.Nat.{_+_, _≤_, max}
 use native.Mathlib.Omega.{arith}
 use lib.ListN.{length}
 use borrow.Author.Needs.{needs}
-use Rattle.output.specs.declared.Letters.the-variants.{Lower}
-use Rattle.output.specs.Digits.{digitCount, numberText}
-use Rattle.output.proofs.Digits.{number-length, padded-length}
+use Rattle.numbers.specs.declared.Letters.the-variants.{Lower}
+use Rattle.numbers.specs.Digits.{digitCount, numberText}
+use Rattle.numbers.proofs.Digits.{number-length, padded-length}
 use Rattle.output.proofs.Writes.{writes-then}
 use Rattle.format_bytes.specs.CArray.{addressComment}
 use Rattle.format_bytes.proofs.Lengths.{comment-length}

@@ -6,7 +6,7 @@ use native.Mathlib.Omega.{arith}
 use borrow.Author.Needs.{needs}
 use Rattle.bitvec.specs.Size.{ceilDiv}
 use Rattle.output.specs.Ascii.{ascii}
-use Rattle.output.proofs.Digits.{count-small}
+use Rattle.numbers.proofs.Digits.{count-small}
 use Rattle.format_bytes.specs.declared.bytes.LineStart.the-variants.{Comment}
 use Rattle.format_bytes.specs.Start.{lineStart}
 use Rattle.format_bytes.specs.CArray.{addressWidth}

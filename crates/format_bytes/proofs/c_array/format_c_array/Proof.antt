@@ -8,7 +8,7 @@ use borrow.Author.Tests.{eq-eqb, ne-eqb}
 use borrow.Author.Needs.{needs}
 use Rattle.bitvec.specs.Size.{badSize, ceilDiv}
 use Rattle.bitvec.proofs.Size.{size-good}
-use Rattle.output.proofs.Outcome.{exports-text, exports-no-room}
+use Rattle.outcome.proofs.Outcome.{exports-text, exports-no-room}
 use Rattle.format_bytes.specs.Bytes.{badRadix}
 use Rattle.format_bytes.specs.CArray.{addressWidth, cArrayText, cArrayOutcome}
 use Rattle.format_bytes.proofs.c_array.format_c_array.Statement.{statement}

@@ -8,8 +8,8 @@ use lib.ListN.{length}
 use borrow.Author.Needs.{needs}
 use Rattle.bitvec.specs.Size.{badSize, ceilDiv}
 use Rattle.bitvec.proofs.Size.{size-good}
-use Rattle.output.specs.Outcome.{tooLong}
-use Rattle.output.proofs.Outcome.{short, exports-text, exports-no-room}
+use Rattle.outcome.specs.Outcome.{tooLong}
+use Rattle.outcome.proofs.Outcome.{short, exports-text, exports-no-room}
 use Rattle.format_bytes.specs.declared.bytes.LineStart.the-variants.{Newline}
 use Rattle.format_bytes.specs.Bytes.{badRadix}
 use Rattle.format_bytes.specs.Start.{lineStart}

@@ -10,8 +10,8 @@ use Rattle.bitvec.specs.Size.{badSize, ceilDiv}
 use Rattle.bitvec.proofs.Size.{size-good}
 use Rattle.output.specs.Ascii.{ascii}
 use Rattle.output.specs.Pieces.{pieces}
-use Rattle.output.specs.Outcome.{outside}
-use Rattle.output.proofs.Outcome.{inside, exports-text, exports-no-room}
+use Rattle.outcome.specs.Outcome.{outside}
+use Rattle.outcome.proofs.Outcome.{inside, exports-text, exports-no-room}
 use Rattle.format_memory.specs.Logisim.{chunkAt, logisimText, logisimOutcome}
 use Rattle.format_memory.proofs.logisim.format_logisim.Statement.{statement}
 use Rattle.format_memory.proofs.logisim.format_logisim.Tie as tie

@@ -8,7 +8,7 @@ use borrow.Author.Tests.{eq-eqb, ne-eqb}
 use borrow.Author.Needs.{needs}
 use Rattle.bitvec.specs.Size.{badSize, ceilDiv}
 use Rattle.bitvec.proofs.Size.{size-good}
-use Rattle.output.proofs.Outcome.{exports-text, exports-no-room}
+use Rattle.outcome.proofs.Outcome.{exports-text, exports-no-room}
 use Rattle.format_memory.specs.Mif.{mifText, mifOutcome}
 use Rattle.format_memory.proofs.mif.format_mif.Statement.{statement}
 use Rattle.format_memory.proofs.mif.format_mif.Tie as tie

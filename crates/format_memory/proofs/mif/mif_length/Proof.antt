@@ -5,7 +5,7 @@ use Prim.Native.Nat.{_+_, _-_, _*_, _^_, _≤_}
 use native.Mathlib.Nat.{mul-le-mul}
 use native.Mathlib.Omega.{arith}
 use borrow.Author.Needs.{needs}
-use Rattle.output.proofs.Digits.{count-small}
+use Rattle.numbers.proofs.Digits.{count-small}
 use Rattle.format_memory.proofs.Lengths.{mif-length}
 use Rattle.format_memory.proofs.mif.mif_length.Statement.{statement}
 use Rattle.format_memory.proofs.mif.mif_length.Tie as tie

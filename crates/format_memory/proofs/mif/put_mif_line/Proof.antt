@@ -4,9 +4,9 @@ use Prim.Native.Nat.{_+_, _≤_}
 use native.Mathlib.Omega.{arith}
 use lib.ListN.{length}
 use borrow.Author.Needs.{needs}
-use Rattle.output.specs.declared.Letters.the-variants.{Upper}
-use Rattle.output.specs.Digits.{numberText, byteText}
-use Rattle.output.proofs.Digits.{number-length, padded-length}
+use Rattle.numbers.specs.declared.Letters.the-variants.{Upper}
+use Rattle.numbers.specs.Digits.{numberText, byteText}
+use Rattle.numbers.proofs.Digits.{number-length, padded-length}
 use Rattle.output.proofs.Writes.{writes-then}
 use Rattle.format_memory.specs.Mif.{mifLine}
 use Rattle.format_memory.proofs.Lengths.{mif-line-length}

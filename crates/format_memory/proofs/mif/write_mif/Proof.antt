@@ -5,10 +5,10 @@ use Prim.Native.Nat.{_+_, _≤_}
 use native.Mathlib.Omega.{arith}
 use lib.ListN.{length}
 use borrow.Author.Needs.{needs}
-use Rattle.output.specs.declared.Letters.the-variants.{Lower}
-use Rattle.output.specs.Digits.{digitCount}
+use Rattle.numbers.specs.declared.Letters.the-variants.{Lower}
+use Rattle.numbers.specs.Digits.{digitCount}
 use Rattle.output.specs.Pieces.{pieces}
-use Rattle.output.proofs.Digits.{number-length}
+use Rattle.numbers.proofs.Digits.{number-length}
 use Rattle.output.proofs.Writes.{writes-then}
 use Rattle.format_memory.specs.Mif.{mifLine, mifText}
 use Rattle.format_memory.proofs.Lengths.{mif-parts}

@@ -8,8 +8,8 @@ use lib.ListN.{length}
 use borrow.Author.Needs.{needs}
 use Rattle.bitvec.specs.Size.{badSize}
 use Rattle.bitvec.proofs.Size.{size-good}
-use Rattle.output.specs.Outcome.{Outcome}
-use Rattle.output.proofs.Outcome.{room-enough, room-short, exports-text, exports-no-room}
+use Rattle.outcome.specs.Outcome.{Outcome}
+use Rattle.outcome.proofs.Outcome.{room-enough, room-short, exports-text, exports-no-room}
 use Rattle.format_plain.specs.Binary.{binaryText, binaryOutcome, paddedIn}
 use Rattle.format_plain.proofs.Lengths.{binary-length}
 use Rattle.format_plain.proofs.binary.format_binary.Statement.{statement}

@@ -6,8 +6,8 @@ use native.Mathlib.Omega.{arith}
 use borrow.Author.Needs.{needs}
 use Rattle.bitvec.specs.Size.{badSize}
 use Rattle.bitvec.proofs.Size.{size-good, ceil-reach}
-use Rattle.output.specs.Outcome.{outside}
-use Rattle.output.proofs.Outcome.{inside, exports-text, exports-no-room}
+use Rattle.outcome.specs.Outcome.{outside}
+use Rattle.outcome.proofs.Outcome.{inside, exports-text, exports-no-room}
 use Rattle.format_plain.specs.Str.{strText, strOutcome}
 use Rattle.format_plain.proofs.Lengths.{str-length}
 use Rattle.format_plain.proofs.digit_str.format_str.Statement.{statement}

@@ -6,8 +6,8 @@ use native.Mathlib.Omega.{arith}
 use borrow.Author.Needs.{needs}
 use Rattle.bitvec.specs.Size.{badSize}
 use Rattle.bitvec.proofs.Size.{size-good}
-use Rattle.output.specs.Outcome.{outside}
-use Rattle.output.proofs.Outcome.{inside, exports-text, exports-no-room}
+use Rattle.outcome.specs.Outcome.{outside}
+use Rattle.outcome.proofs.Outcome.{inside, exports-text, exports-no-room}
 use Rattle.format_plain.specs.Readmem.{readmemText, readmemOutcome}
 use Rattle.format_plain.proofs.readmem.format_readmem.Statement.{statement}
 use Rattle.format_plain.proofs.readmem.format_readmem.Tie as tie

@@ -3,7 +3,7 @@
 use mathlib.Core.Path.{_≡_, refl, sym, _∙_}
 use native.Mathlib.Omega.{arith}
 use lib.ListN.{length}
-use Rattle.output.proofs.Outcome.{exports-text, exports-no-room}
+use Rattle.outcome.proofs.Outcome.{exports-text, exports-no-room}
 use Rattle.hex_records.specs.Plan.{hexPlan, blocksAt}
 use Rattle.hex_records.specs.Text.{hexText}
 use Rattle.intelhex.specs.Hex.{planOutcome}

@@ -6,8 +6,8 @@ use Prim.Native.Nat.{_≤_}
 use native.Mathlib.Omega.{arith}
 use lib.ListN.{length, take}
 use lib.Seq.{length-take-le}
-use Rattle.output.specs.Outcome.{refused}
-use Rattle.output.proofs.Outcome.{inside}
+use Rattle.outcome.specs.Outcome.{refused}
+use Rattle.outcome.proofs.Outcome.{inside}
 use Rattle.ordering.proofs.Lists.{sets-front, map-length}
 use Rattle.blocks.specs.Blocks.{Finds, blocksOf, blocksFound}
 use Rattle.blocks.specs.declared.Blocks.the-variants.{Found, SpanRange, NoRoom}

@@ -6,8 +6,8 @@ use Prim.Native.Nat.{ℕ}
 use lib.Dec.{ltb}
 use lib.ListN.{length}
 use lib.Seq.{sets}
-use Rattle.output.specs.declared.Export.{Export}
-use Rattle.output.specs.declared.Export.the-variants.{Text, ImageSize, OptionRange, SpanRange, EmptyImage, AddressRange, SourceText, SpanFault, NoRoom}
+use Rattle.outcome.specs.declared.Export.{Export}
+use Rattle.outcome.specs.declared.Export.the-variants.{Text, ImageSize, OptionRange, SpanRange, EmptyImage, AddressRange, SourceText, SpanFault, NoRoom}
 
 -- A text, or a refusal: its number, and the value returned with it.
 pub data Outcome : Type 0 where

@@ -1,4 +1,4 @@
--- `output::put_number` meets its contract: at each turn the digits of what is left and those that are stored, t, make the whole number.
+-- `numbers::put_number` meets its contract: at each turn the digits of what is left and those that are stored, t, make the whole number.
 -- Assumes nothing.
 use mathlib.Core.Path.{_≡_, refl, sym, _∙_}
 use mathlib.Core.List.{List, [], _∷_, _++_, append-nil, append-assoc}
@@ -8,11 +8,11 @@ use native.Mathlib.Omega.{arith}
 use lib.ListN.{length, length-set}
 use lib.Seq.{sets}
 use borrow.Author.Needs.{needs}
-use Rattle.output.specs.Digits.{digitChar, digitCount, numberText}
-use Rattle.output.proofs.Digits.{smaller, count-last, count-more, count-some, number-last, number-more, number-length}
+use Rattle.numbers.specs.Digits.{digitChar, digitCount, numberText}
+use Rattle.numbers.proofs.Digits.{smaller, count-last, count-more, count-some, number-last, number-more, number-length}
 use Rattle.output.proofs.Writes.{sets-before}
-use Rattle.output.proofs.put_number.Statement.{statement}
-use Rattle.output.proofs.put_number.Tie as tie
+use Rattle.numbers.proofs.put_number.Statement.{statement}
+use Rattle.numbers.proofs.put_number.Tie as tie
 
 abbrev Inv-loop : tie.InvT-loop
 Inv-loop out₀ at letters value radix end place₀ rest₀ out place rest =

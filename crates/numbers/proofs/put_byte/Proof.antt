@@ -1,10 +1,10 @@
--- `output::put_byte` meets its contract: two writers, one after the other.
+-- `numbers::put_byte` meets its contract: two writers, one after the other.
 -- Assumes nothing.
 use borrow.Author.Needs.{needs}
-use Rattle.output.specs.Digits.{byteText}
+use Rattle.numbers.specs.Digits.{byteText}
 use Rattle.output.proofs.Writes.{writes-then}
-use Rattle.output.proofs.put_byte.Statement.{statement}
-use Rattle.output.proofs.put_byte.Tie as tie
+use Rattle.numbers.proofs.put_byte.Statement.{statement}
+use Rattle.numbers.proofs.put_byte.Tie as tie
 
 digit-char-requires : tie.Need-digit-char-requires
 digit-char-requires c κs = search needs

@@ -1,15 +1,15 @@
--- `output::put_padded` meets its contract: the fill and the number, one after the other.
+-- `numbers::put_padded` meets its contract: the fill and the number, one after the other.
 -- Assumes nothing.
 use mathlib.Core.Path.{_≡_}
 use Prim.Native.Nat.{_-_}
 use native.Mathlib.Omega.{arith}
 use lib.ListN.{length, length-replicate}
 use borrow.Author.Needs.{needs}
-use Rattle.output.specs.Digits.{numberText, padded}
-use Rattle.output.proofs.Digits.{number-length}
+use Rattle.numbers.specs.Digits.{numberText, padded}
+use Rattle.numbers.proofs.Digits.{number-length}
 use Rattle.output.proofs.Writes.{writes-then}
-use Rattle.output.proofs.put_padded.Statement.{statement}
-use Rattle.output.proofs.put_padded.Tie as tie
+use Rattle.numbers.proofs.put_padded.Statement.{statement}
+use Rattle.numbers.proofs.put_padded.Tie as tie
 
 digit-count-requires : tie.Need-digit-count-requires
 digit-count-requires c κs = search needs

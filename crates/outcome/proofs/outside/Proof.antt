@@ -1,9 +1,9 @@
--- `output::outside` meets its contract: each return goes by the tests that led to it.
+-- `outcome::outside` meets its contract: each return goes by the tests that led to it.
 -- Assumes nothing.
 use borrow.Author.Tests.{lt-ltb, le-ltb}
-use Rattle.output.specs.Outcome.{outside}
-use Rattle.output.proofs.outside.Statement.{statement}
-use Rattle.output.proofs.outside.Tie as tie
+use Rattle.outcome.specs.Outcome.{outside}
+use Rattle.outcome.proofs.outside.Statement.{statement}
+use Rattle.outcome.proofs.outside.Tie as tie
 
 returns : tie.Need-returns
 unfolding outside

@@ -5,8 +5,8 @@ use Prim.Native.Nat.{ℕ, zero, suc, _+_, _-_, _/_, _%_}
 use Prim.Native.Char.{code}
 use lib.Dec.{ltb}
 use lib.ListN.{length, replicate}
-use Rattle.output.specs.declared.Letters.{Letters}
-use Rattle.output.specs.declared.Letters.the-variants.{Lower, Upper}
+use Rattle.numbers.specs.declared.Letters.{Letters}
+use Rattle.numbers.specs.declared.Letters.the-variants.{Lower, Upper}
 
 -- The letter that stands for ten: a or A.
 abbrev pub letterTen : Letters → ℕ

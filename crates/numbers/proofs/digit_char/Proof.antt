@@ -1,12 +1,12 @@
--- `output::digit_char` meets its contract: the test tells a digit from a letter.
+-- `numbers::digit_char` meets its contract: the test tells a digit from a letter.
 -- Assumes nothing.
 use native.Mathlib.Omega.{arith}
 use borrow.Author.Tests.{lt-ltb, le-ltb}
 use borrow.Author.Needs.{needs}
-use Rattle.output.specs.Digits.{digitChar}
-use Rattle.output.proofs.Digits.{letter-small}
-use Rattle.output.proofs.digit_char.Statement.{statement}
-use Rattle.output.proofs.digit_char.Tie as tie
+use Rattle.numbers.specs.Digits.{digitChar}
+use Rattle.numbers.proofs.Digits.{letter-small}
+use Rattle.numbers.proofs.digit_char.Statement.{statement}
+use Rattle.numbers.proofs.digit_char.Tie as tie
 
 add-result : tie.Need-add-result
 add-result c = search needs

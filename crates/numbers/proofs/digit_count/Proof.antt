@@ -1,13 +1,13 @@
--- `output::digit_count` meets its contract: the digits counted and those of what is left make the whole number.
+-- `numbers::digit_count` meets its contract: the digits counted and those of what is left make the whole number.
 -- Assumes nothing.
 use mathlib.Core.Path.{_≡_}
 use Prim.Native.Nat.{_+_}
 use native.Mathlib.Omega.{arith}
 use borrow.Author.Needs.{needs}
-use Rattle.output.specs.Digits.{digitCount}
-use Rattle.output.proofs.Digits.{smaller, count-last, count-more, count-small}
-use Rattle.output.proofs.digit_count.Statement.{statement}
-use Rattle.output.proofs.digit_count.Tie as tie
+use Rattle.numbers.specs.Digits.{digitCount}
+use Rattle.numbers.proofs.Digits.{smaller, count-last, count-more, count-small}
+use Rattle.numbers.proofs.digit_count.Statement.{statement}
+use Rattle.numbers.proofs.digit_count.Tie as tie
 
 abbrev Inv-loop : tie.InvT-loop
 Inv-loop value radix count₀ rest₀ count rest = count + digitCount radix rest ≡ digitCount radix value + 1

@@ -1,0 +1,96 @@
+// Digits and numbers as text, written into the output buffer.
+ghost use mathlib.Core.Path.{_≡_};
+ghost use Prim.Native.Nat.{_+_, _≤_, _<_, max};
+ghost use lib.ListN.{length};
+ghost use Rattle.output.specs.Writes.{Writes};
+ghost use Rattle.numbers.specs.Digits.{letterTen, digitChar, byteText, digitCount, numberText, padded};
+use output::free;
+use output::put;
+use output::put_fill;
+
+// The letters of the digits above nine.
+pub enum Letters {
+    Lower,
+    Upper,
+}
+
+fn letter_ten(letters: Letters) -> u8
+    ensures { λ r. ⌜ r ≡ letterTen letters ⌝ }
+{
+    match letters {
+        Letters::Lower => b'a',
+        Letters::Upper => b'A',
+    }
+}
+
+// The character of a digit below 36.
+pub fn digit_char(letters: Letters, digit: u8) -> u8
+    requires { ⌜ digit < 36 ⌝ }
+    ensures { λ r. ⌜ r ≡ digitChar letters digit ⌝ }
+{
+    if digit < 10 {
+        return b'0' + digit;
+    }
+    letter_ten(letters) + (digit - 10)
+}
+
+// Stores a byte as two hexadecimal digits.
+pub fn put_byte(out: &mut [u8], at: usize, letters: Letters, byte: u8) -> usize
+    requires { ⌜ at + 2 ≤ length (now out) ⌝ }
+    ensures { λ r. ⌜ Writes (byteText letters byte) (now (out .entry)) at (now (out .exit)) r ⌝ }
+{
+    let next = put(out, at, digit_char(letters, byte / 16));
+    put(out, next, digit_char(letters, byte % 16))
+}
+
+// How many digits `value` has in a radix.
+pub fn digit_count(value: u64, radix: u64) -> usize
+    requires { ⌜ 2 ≤ radix ⌝ }
+    ensures { λ r. ⌜ r ≡ digitCount radix value ⌝ }
+{
+    let mut count: usize = 1;
+    let mut rest = value;
+    while radix <= rest {
+        rest = rest / radix;
+        count += 1;
+    }
+    count
+}
+
+// Stores a number in a radix of 2 to 36, with no padding. The last digit is found first, so the
+// digits are stored from the back.
+pub fn put_number(out: &mut [u8], at: usize, letters: Letters, value: u64, radix: u64) -> usize
+    requires { ⌜ (2 ≤ radix) × (radix ≤ 36) × (at + digitCount radix value ≤ length (now out)) ⌝ }
+    ensures { λ r. ⌜ Writes (numberText letters radix value) (now (out .entry)) at (now (out .exit)) r ⌝ }
+{
+    let end = at + digit_count(value, radix);
+    let mut place = end;
+    let mut rest = value;
+    while radix <= rest {
+        place -= 1;
+        let digit = (rest % radix) as u8;
+        out[place] = digit_char(letters, digit);
+        rest = rest / radix;
+    }
+    let first = rest as u8;
+    out[at] = digit_char(letters, first);
+    end
+}
+
+// Stores a number in a radix of 2 to 36, filled on its left to a width.
+pub fn put_padded(
+    out: &mut [u8],
+    at: usize,
+    letters: Letters,
+    value: u64,
+    radix: u64,
+    fill: u8,
+    width: usize,
+) -> usize
+    requires { ⌜ (2 ≤ radix) × (radix ≤ 36) × (at + max width (digitCount radix value) ≤ length (now out)) ⌝ }
+    ensures { λ r. ⌜ Writes (padded fill width (numberText letters radix value)) (now (out .entry)) at (now (out .exit)) r ⌝ }
+{
+    let count = digit_count(value, radix);
+    let next = put_fill(out, at, fill, free(count, width));
+    put_number(out, next, letters, value, radix)
+}
