@@ -6,7 +6,7 @@ ghost use lib.ListN.{length};
 ghost use Rattle.outcome.specs.Outcome.{answerOf};
 ghost use Rattle.format_plain.specs.Binary.{binaryOutcome, paddedIn};
 ghost use Rattle.format_plain.specs.Str.{strOutcome};
-ghost use Rattle.format_plain.specs.Readmem.{readmembOutcome, readmemhOutcome};
+ghost use Rattle.format_readmem.specs.Readmem.{readmembOutcome, readmemhOutcome};
 ghost use Rattle.format_bytes.specs.Separator.{separatorOutcome};
 ghost use Rattle.format_bytes.specs.CArray.{cArrayOutcome};
 ghost use Rattle.format_list.specs.List.{listOutcome};
@@ -71,7 +71,7 @@ pub extern "C" fn riceshoal_format_readmemb(
     ensures { λ r. ⌜ Returns (readmembOutcome (now (image .entry)) bits width (length (now (out .entry)))) r (now (value .exit)) (now (out .entry)) (now (out .exit)) ⌝ }
 {
     give(
-        format_plain::format_readmemb(image, bits, width, out),
+        format_readmem::format_readmemb(image, bits, width, out),
         value,
     )
 }
@@ -87,7 +87,7 @@ pub extern "C" fn riceshoal_format_readmemh(
     ensures { λ r. ⌜ Returns (readmemhOutcome (now (image .entry)) bits width (length (now (out .entry)))) r (now (value .exit)) (now (out .entry)) (now (out .exit)) ⌝ }
 {
     give(
-        format_plain::format_readmemh(image, bits, width, out),
+        format_readmem::format_readmemh(image, bits, width, out),
         value,
     )
 }

@@ -17,7 +17,7 @@ pub(crate) fn readmemh_row() -> u64
     ensures { λ r. ⌜ r ≤ 1 ⌝ }
 {
     let mut out = [OLD; 256];
-    let answer = format_plain::format_readmemh(&[0b10110111], 5, 5, &mut out);
+    let answer = format_readmem::format_readmemh(&[0b10110111], 5, 5, &mut out);
     tell(
         b"readmemh width 5, bits 10110",
         gave(answer, &out, 0, 3, b"16\n"),
@@ -28,7 +28,7 @@ pub(crate) fn readmemb_row() -> u64
     ensures { λ r. ⌜ r ≤ 1 ⌝ }
 {
     let mut out = [OLD; 256];
-    let answer = format_plain::format_readmemb(&[0b10110111], 5, 3, &mut out);
+    let answer = format_readmem::format_readmemb(&[0b10110111], 5, 3, &mut out);
     tell(
         b"readmemb width 3, bits 10110",
         gave(answer, &out, 0, 7, b"101\n10\n"),
@@ -50,7 +50,7 @@ pub(crate) fn past_the_largest() -> u64
     ensures { λ r. ⌜ r ≤ 1 ⌝ }
 {
     let mut out = [OLD; 256];
-    let answer = format_plain::format_readmemb(&[0b10110111], 16777217, 0, &mut out);
+    let answer = format_readmem::format_readmemb(&[0b10110111], 16777217, 0, &mut out);
     tell(
         b"refusal 1: 16,777,217 bits, before a width of 0",
         gave(answer, &out, 1, 0, b""),
@@ -61,7 +61,7 @@ pub(crate) fn readmemb_no_width() -> u64
     ensures { λ r. ⌜ r ≤ 1 ⌝ }
 {
     let mut out = [OLD; 256];
-    let answer = format_plain::format_readmemb(&[0b10110111], 5, 0, &mut out);
+    let answer = format_readmem::format_readmemb(&[0b10110111], 5, 0, &mut out);
     tell(
         b"refusal 2: readmemb width 0",
         gave(answer, &out, 2, 0, b""),
@@ -72,7 +72,7 @@ pub(crate) fn readmemh_no_width() -> u64
     ensures { λ r. ⌜ r ≤ 1 ⌝ }
 {
     let mut out = [OLD; 256];
-    let answer = format_plain::format_readmemh(&[0b10110111], 5, 0, &mut out);
+    let answer = format_readmem::format_readmemh(&[0b10110111], 5, 0, &mut out);
     tell(
         b"refusal 2: readmemh width 0",
         gave(answer, &out, 2, 0, b""),
@@ -83,7 +83,7 @@ pub(crate) fn readmemh_wide() -> u64
     ensures { λ r. ⌜ r ≤ 1 ⌝ }
 {
     let mut out = [OLD; 256];
-    let answer = format_plain::format_readmemh(&[0b10110111], 5, 4097, &mut out);
+    let answer = format_readmem::format_readmemh(&[0b10110111], 5, 4097, &mut out);
     tell(
         b"refusal 2: readmemh width 4,097",
         gave(answer, &out, 2, 0, b""),
@@ -105,7 +105,7 @@ pub(crate) fn empty_image() -> u64
     ensures { λ r. ⌜ r ≤ 1 ⌝ }
 {
     let mut out = [OLD; 256];
-    let answer = format_plain::format_readmemh(b"", 0, 8, &mut out);
+    let answer = format_readmem::format_readmemh(b"", 0, 8, &mut out);
     tell(b"readmemh of an empty image", gave(answer, &out, 0, 0, b""))
 }
 

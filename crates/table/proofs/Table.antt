@@ -18,7 +18,7 @@ use Rattle.hex_records.specs.Plan.{chunkAt, blockPlan, hexPlan, tooHigh}
 use Rattle.hex_records.specs.Text.{bytesFrom, total, checksum, recordBytes, hexBytes, recordText, hexText}
 use Rattle.intelhex.specs.Hex.{planOutcome, hexOutcome}
 use Rattle.format_plain.specs.Str.{strText, strOutcome}
-use Rattle.format_plain.specs.Readmem.{lineText, readmemText, readmemOutcome}
+use Rattle.format_readmem.specs.Readmem.{lineText, readmemText, readmemOutcome}
 use Rattle.format_list.specs.List.{groupText, betweenGroups, listText, badList, listOutcome}
 use Rattle.format_memory.specs.Logisim.{chunkText, logisimText, logisimOutcome}
 use Rattle.table.specs.Table.{Row, rows}

@@ -6,7 +6,7 @@ use Prim.Native.String.{String}
 use Rattle.outcome.specs.Outcome.{Outcome}
 use Rattle.intelhex.specs.Hex.{hexOutcome}
 use Rattle.format_plain.specs.Str.{strOutcome}
-use Rattle.format_plain.specs.Readmem.{readmembOutcome, readmemhOutcome}
+use Rattle.format_readmem.specs.Readmem.{readmembOutcome, readmemhOutcome}
 use Rattle.format_list.specs.List.{listOutcome}
 use Rattle.format_memory.specs.Logisim.{logisimOutcome}
 use Rattle.output.specs.Ascii.{ascii}

@@ -218,10 +218,10 @@ fn export_plain(line: Line, image: &[u8], out: &mut [u8]) -> Export {
         return format_plain::format_str(image, line.bits, line.option, out);
     }
     if line.kind == b'm' {
-        return format_plain::format_readmemb(image, line.bits, line.option, out);
+        return format_readmem::format_readmemb(image, line.bits, line.option, out);
     }
     if line.kind == b'h' {
-        return format_plain::format_readmemh(image, line.bits, line.option, out);
+        return format_readmem::format_readmemh(image, line.bits, line.option, out);
     }
     if line.kind == b'c' {
         return format_bytes::format_c_array(image, line.bits, line.option, out);

@@ -1,4 +1,5 @@
-// The memory files of Verilog (the Rust's `format_readmemb` and `format_readmemh`).
+// The memory files of Verilog (document 01, module 3; the Rust's `format_readmemb` and
+// `format_readmemh`). Each answers a text and its length, or refusal 1, 2 or 8.
 ghost use mathlib.Core.Path.{_≡_};
 ghost use mathlib.Core.List.{List};
 ghost use Prim.Native.Nat.{ℕ, _+_, _≤_, _<_, _^_};
@@ -6,12 +7,12 @@ ghost use lib.ListN.{length};
 ghost use Rattle.bitvec.specs.Size.{ceilDiv};
 ghost use Rattle.output.specs.Writes.{Writes};
 ghost use Rattle.outcome.specs.Outcome.{Exports};
-ghost use Rattle.format_plain.specs.Readmem.{lineText, readmemText, readmemOutcome, readmembOutcome, readmemhOutcome};
+ghost use Rattle.format_readmem.specs.Readmem.{lineText, readmemText, readmemOutcome, readmembOutcome, readmemhOutcome};
 use bitvec::BitOffset;
 use outcome::Export;
 
 // Which of the two files: a digit for each bit, or hexadecimal digits.
-pub enum Readmem {
+enum Readmem {
     Binary,
     Hex,
 }

@@ -1,4 +1,4 @@
--- `format_plain::readmem::write_readmem` meets its contract: after i turns i lines are written.
+-- `format_readmem::write_readmem` meets its contract: after i turns i lines are written.
 -- Assumes nothing.
 use mathlib.Core.Path.{_≡_, refl, ap}
 use mathlib.Core.List.{List, _++_}
@@ -15,10 +15,10 @@ use Rattle.output.specs.Writes.{Writes}
 use Rattle.output.proofs.Pieces.{pieces-none, pieces-next, pieces-room}
 use Rattle.output.proofs.Writes.{writes-nothing, writes-then}
 use Rattle.digits.specs.Parts.{partBits}
-use Rattle.format_plain.specs.declared.readmem.Readmem.{Readmem}
-use Rattle.format_plain.specs.Readmem.{lineText, readmemText}
-use Rattle.format_plain.proofs.readmem.write_readmem.Statement.{statement}
-use Rattle.format_plain.proofs.readmem.write_readmem.Tie as tie
+use Rattle.format_readmem.specs.declared.Readmem.{Readmem}
+use Rattle.format_readmem.specs.Readmem.{lineText, readmemText}
+use Rattle.format_readmem.proofs.write_readmem.Statement.{statement}
+use Rattle.format_readmem.proofs.write_readmem.Tie as tie
 
 -- line i with its newline
 abbrev lines-of : Readmem → List ℕ → ℕ → ℕ → ℕ → List ℕ

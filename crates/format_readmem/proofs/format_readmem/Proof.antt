@@ -1,4 +1,4 @@
--- `format_plain::readmem::format_readmem` meets its contract: each return goes by the tests that led to it; the length is known before anything is written.
+-- `format_readmem::format_readmem` meets its contract: each return goes by the tests that led to it; the length is known before anything is written.
 -- Assumes nothing.
 use mathlib.Core.Path.{_≡_, refl, sym, _∙_}
 use mathlib.Core.Bool.{false}
@@ -8,9 +8,9 @@ use Rattle.bitvec.specs.Size.{badSize}
 use Rattle.bitvec.proofs.Size.{size-good}
 use Rattle.outcome.specs.Outcome.{outside}
 use Rattle.outcome.proofs.Outcome.{inside, exports-text, exports-no-room}
-use Rattle.format_plain.specs.Readmem.{readmemText, readmemOutcome}
-use Rattle.format_plain.proofs.readmem.format_readmem.Statement.{statement}
-use Rattle.format_plain.proofs.readmem.format_readmem.Tie as tie
+use Rattle.format_readmem.specs.Readmem.{readmemText, readmemOutcome}
+use Rattle.format_readmem.proofs.format_readmem.Statement.{statement}
+use Rattle.format_readmem.proofs.format_readmem.Tie as tie
 
 sized : (c : tie.Else1) → badSize (c .before .before .before .before .args .image .now) (c .before .before .before .before .args .bits) ≡ false
 sized c = sym (c .before .bad-size .ensures) ∙ c .if1 .left

@@ -1,15 +1,15 @@
--- `format_plain::readmem::put_line` meets its contract: one case for each kind of file.
+-- `format_readmem::put_line` meets its contract: one case for each kind of file.
 -- Assumes nothing.
 use mathlib.Core.Path.{_≡_, ap}
 use Prim.Native.Nat.{_+_, _/_}
 use native.Mathlib.Omega.{arith}
 use borrow.Author.Needs.{needs}
 use Rattle.bitvec.specs.Size.{ceilDiv}
-use Rattle.format_plain.specs.declared.readmem.Readmem.{Readmem}
-use Rattle.format_plain.specs.Readmem.{lineText}
-use Rattle.format_plain.proofs.Lengths.{lineDigits, line-digits}
-use Rattle.format_plain.proofs.readmem.put_line.Statement.{statement}
-use Rattle.format_plain.proofs.readmem.put_line.Tie as tie
+use Rattle.format_readmem.specs.declared.Readmem.{Readmem}
+use Rattle.format_readmem.specs.Readmem.{lineText}
+use Rattle.format_readmem.proofs.Lengths.{lineDigits, line-digits}
+use Rattle.format_readmem.proofs.put_line.Statement.{statement}
+use Rattle.format_readmem.proofs.put_line.Tie as tie
 
 enum-told : tie.Need-enum-told
 enum-told c = search needs

@@ -1,11 +1,11 @@
--- `format_plain::readmem::line_length` meets its contract: one case for each kind of file.
+-- `format_readmem::line_length` meets its contract: one case for each kind of file.
 -- Assumes nothing.
 use mathlib.Core.Path.{sym, ap, _∙_}
 use borrow.Author.Needs.{needs}
-use Rattle.format_plain.specs.declared.readmem.Readmem.{Readmem}
-use Rattle.format_plain.proofs.Lengths.{lineDigits, line-digits}
-use Rattle.format_plain.proofs.readmem.line_length.Statement.{statement}
-use Rattle.format_plain.proofs.readmem.line_length.Tie as tie
+use Rattle.format_readmem.specs.declared.Readmem.{Readmem}
+use Rattle.format_readmem.proofs.Lengths.{lineDigits, line-digits}
+use Rattle.format_readmem.proofs.line_length.Statement.{statement}
+use Rattle.format_readmem.proofs.line_length.Tie as tie
 
 enum-told : tie.Need-enum-told
 enum-told c = search needs

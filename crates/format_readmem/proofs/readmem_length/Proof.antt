@@ -1,4 +1,4 @@
--- `format_plain::readmem::readmem_length` meets its contract: the length is that of the whole lines and of the last one.
+-- `format_readmem::readmem_length` meets its contract: the length is that of the whole lines and of the last one.
 -- Assumes nothing.
 use mathlib.Core.Path.{_≡_, sym, _∙_}
 use mathlib.Core.List.{[]}
@@ -6,9 +6,9 @@ use Prim.Native.Nat.{_%_, _<_}
 use native.Mathlib.Nat.{mod-lt}
 use native.Mathlib.Omega.{arith}
 use borrow.Author.Needs.{needs}
-use Rattle.format_plain.proofs.Lengths.{lineDigits, line-digits, digits-most, readmem-length}
-use Rattle.format_plain.proofs.readmem.readmem_length.Statement.{statement}
-use Rattle.format_plain.proofs.readmem.readmem_length.Tie as tie
+use Rattle.format_readmem.proofs.Lengths.{lineDigits, line-digits, digits-most, readmem-length}
+use Rattle.format_readmem.proofs.readmem_length.Statement.{statement}
+use Rattle.format_readmem.proofs.readmem_length.Tie as tie
 
 -- what the code measures is the number of digits of a line
 whole : (c : tie.After-line-length) → c .line-length .result ≡ lineDigits (c .before .args .kind) (c .before .args .width)

@@ -8,8 +8,8 @@ use Rattle.output.specs.Pieces.{pieces}
 use Rattle.outcome.specs.Outcome.{Outcome, refused, outside, inRoom}
 use Rattle.digits.specs.Run.{run, hexLine}
 use Rattle.digits.specs.Parts.{partBits}
-use Rattle.format_plain.specs.declared.readmem.Readmem.{Readmem}
-use Rattle.format_plain.specs.declared.readmem.Readmem.the-variants.{Binary, Hex}
+use Rattle.format_readmem.specs.declared.Readmem.{Readmem}
+use Rattle.format_readmem.specs.declared.Readmem.the-variants.{Binary, Hex}
 
 -- m bits from bit i on: each bit a digit, or in hexadecimal, where a line that is not a multiple of 4 bits starts with a short digit.
 unfoldable pub lineText : Readmem → List ℕ → ℕ → ℕ → ℕ → List ℕ
