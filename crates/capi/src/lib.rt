@@ -7,8 +7,8 @@ ghost use Rattle.outcome.specs.Outcome.{answerOf};
 ghost use Rattle.format_plain.specs.Binary.{binaryOutcome, paddedIn};
 ghost use Rattle.format_plain.specs.Str.{strOutcome};
 ghost use Rattle.format_readmem.specs.Readmem.{readmembOutcome, readmemhOutcome};
-ghost use Rattle.format_bytes.specs.Separator.{separatorOutcome};
-ghost use Rattle.format_bytes.specs.CArray.{cArrayOutcome};
+ghost use Rattle.format_separator.specs.Separator.{separatorOutcome};
+ghost use Rattle.format_c_array.specs.CArray.{cArrayOutcome};
 ghost use Rattle.format_list.specs.List.{listOutcome};
 ghost use Rattle.format_memory.specs.Mif.{mifOutcome};
 ghost use Rattle.format_memory.specs.Logisim.{logisimOutcome};
@@ -104,7 +104,7 @@ pub extern "C" fn riceshoal_format_separator(
     ensures { λ r. ⌜ Returns (separatorOutcome (now (image .entry)) bits radix (now (separator .entry)) (length (now (out .entry)))) r (now (value .exit)) (now (out .entry)) (now (out .exit)) ⌝ }
 {
     give(
-        format_bytes::format_separator(image, bits, radix, separator, out),
+        format_separator::format_separator(image, bits, radix, separator, out),
         value,
     )
 }
@@ -119,7 +119,10 @@ pub extern "C" fn riceshoal_format_c_array(
 ) -> u32
     ensures { λ r. ⌜ Returns (cArrayOutcome (now (image .entry)) bits radix (length (now (out .entry)))) r (now (value .exit)) (now (out .entry)) (now (out .exit)) ⌝ }
 {
-    give(format_bytes::format_c_array(image, bits, radix, out), value)
+    give(
+        format_c_array::format_c_array(image, bits, radix, out),
+        value,
+    )
 }
 
 #[no_mangle]

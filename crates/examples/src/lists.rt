@@ -9,7 +9,7 @@ pub(crate) fn c_array_row() -> u64
     ensures { λ r. ⌜ r ≤ 1 ⌝ }
 {
     let mut out = [OLD; 256];
-    let answer = format_bytes::format_c_array(&[0x12, 0x0f], 16, 16, &mut out);
+    let answer = format_c_array::format_c_array(&[0x12, 0x0f], 16, 16, &mut out);
     tell(
         b"C array radix 16, bytes 12 0F",
         gave(
@@ -78,7 +78,7 @@ pub(crate) fn line_of_sixteen() -> u64
 {
     let mut out = [OLD; 256];
     let image = [0, 1, 2, 3, 4, 5, 6, 7, 8, 9, 10, 11, 12, 13, 14, 15, 16];
-    let answer = format_bytes::format_separator(&image, 136, 10, b",", &mut out);
+    let answer = format_separator::format_separator(&image, 136, 10, b",", &mut out);
     tell(
         b"separator radix 10, a newline after the sixteenth byte",
         gave(
@@ -95,7 +95,7 @@ pub(crate) fn empty_array() -> u64
     ensures { λ r. ⌜ r ≤ 1 ⌝ }
 {
     let mut out = [OLD; 256];
-    let answer = format_bytes::format_c_array(b"", 0, 16, &mut out);
+    let answer = format_c_array::format_c_array(b"", 0, 16, &mut out);
     tell(
         b"refusal 4: C array of an empty image",
         gave(answer, &out, 4, 0, b""),
@@ -106,7 +106,7 @@ pub(crate) fn radix_before_empty() -> u64
     ensures { λ r. ⌜ r ≤ 1 ⌝ }
 {
     let mut out = [OLD; 256];
-    let answer = format_bytes::format_c_array(b"", 0, 8, &mut out);
+    let answer = format_c_array::format_c_array(b"", 0, 8, &mut out);
     tell(
         b"refusal 2: C array radix 8, before an empty image",
         gave(answer, &out, 2, 0, b""),
@@ -118,7 +118,7 @@ pub(crate) fn long_separator() -> u64
 {
     let mut out = [OLD; 256];
     let separator = [44; 257];
-    let answer = format_bytes::format_separator(&[0x12], 8, 10, &separator, &mut out);
+    let answer = format_separator::format_separator(&[0x12], 8, 10, &separator, &mut out);
     tell(
         b"refusal 2: a separator of 257 bytes",
         gave(answer, &out, 2, 0, b""),

@@ -134,7 +134,7 @@ fn line_at(s: &[u8], at: usize, kind: u8) -> Line {
 fn export_separator(s: &[u8], line: Line, image: &[u8], out: &mut [u8]) -> Export {
     let mut separator = [0u8; 256];
     let n = bytes(s, line.strings, &mut separator);
-    format_bytes::format_separator(image, line.bits, line.option, &separator[..n], out)
+    format_separator::format_separator(image, line.bits, line.option, &separator[..n], out)
 }
 
 fn export_list(s: &[u8], line: Line, image: &[u8], out: &mut [u8]) -> Export {
@@ -224,7 +224,7 @@ fn export_plain(line: Line, image: &[u8], out: &mut [u8]) -> Export {
         return format_readmem::format_readmemh(image, line.bits, line.option, out);
     }
     if line.kind == b'c' {
-        return format_bytes::format_c_array(image, line.bits, line.option, out);
+        return format_c_array::format_c_array(image, line.bits, line.option, out);
     }
     if line.kind == b'i' {
         return format_memory::format_mif(image, line.bits, out);

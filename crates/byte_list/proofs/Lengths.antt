@@ -1,0 +1,62 @@
+-- The lengths of the list and its parts, which the exporters compute before they write.
+-- Assumes nothing.
+use mathlib.Core.Path.{_≡_, refl, _∙_}
+use mathlib.Core.Bool.{Bool, true, false, cond}
+use mathlib.Core.List.{List, _++_}
+use Prim.Native.Nat.{ℕ, _+_, _-_, _*_, _/_, _%_, _<_, max}
+use native.Mathlib.Omega.{arith}
+use lib.Dec.{eqb}
+use lib.ListN.{length, length-append}
+use borrow.Author.Tests.{ne-eqb}
+use Rattle.bitvec.specs.Bits.{byteAt}
+use Rattle.bitvec.specs.Size.{ceilDiv}
+use Rattle.numbers.specs.declared.Letters.the-variants.{Lower}
+use Rattle.output.specs.Ascii.{ascii}
+use Rattle.numbers.specs.Digits.{byteText, digitCount}
+use Rattle.output.specs.Pieces.{pieces, every}
+use Rattle.numbers.proofs.Digits.{number-length, padded-length}
+use Rattle.output.proofs.Joined.{joined-length, between-length, every-length}
+use Rattle.byte_list.specs.declared.LineStart.the-variants.{Newline, Comment}
+use Rattle.byte_list.specs.Bytes.{byteIn, byteList}
+use Rattle.byte_list.specs.Start.{addressComment}
+use Rattle.byte_list.specs.Start.{lineStart}
+
+-- A byte in radix 10 has its digits.
+pub decimal-length : (b : ℕ) → length (byteIn 10 b) ≡ digitCount 10 b
+unfolding byteIn
+decimal-length b = number-length Lower 10 b
+
+-- In any other it has four characters.
+pub hex-length : (radix b : ℕ) → (radix ≡ 10 → ⊥) → length (byteIn radix b) ≡ 4
+unfolding byteIn byteText
+hex-length radix b h = simp (ne-eqb radix 10 h)
+
+-- The comment: its address, and ten characters.
+pub comment-length : (width k : ℕ) → length (addressComment width k) ≡ max width (digitCount 16 k) + 10
+unfolding addressComment
+comment-length width k = simp (length-append, padded-length, number-length) (omega arith)
+
+-- A line starts with a newline, and where it has a comment with that too.
+pub newline-length : (k : ℕ) → length (lineStart Newline k) ≡ 1
+newline-length k = refl
+
+pub start-length : (width k : ℕ) → length (lineStart (Comment width) k) ≡ length (addressComment width k) + 1
+start-length width k = length-append (ascii "\n") (addressComment width k) ∙ omega arith
+
+-- The list: its bytes and what stands between them, where all lines start with texts of one length.
+pub list-length : (radix : ℕ) (s : List ℕ) (line : ℕ → List ℕ) (bytes : List ℕ) (len start : ℕ)
+    → ((k : ℕ) → k < ceilDiv len 8 → length (line k) ≡ start)
+    → (let n = ceilDiv len 8 in
+    length (byteList radix s line bytes len)
+    ≡ ((n - 1) / 16 * (length s + start) + ((n - 1) - (n - 1) / 16) * length s) + length (pieces (λ k. byteIn radix (byteAt bytes len k)) n))
+unfolding byteList
+list-length radix s line bytes len start e =
+    joined-length (λ k. s ++ every 16 k (line k)) (λ k. byteIn radix (byteAt bytes len k)) (ceilDiv len 8)
+    ∙ rw (between-length (λ k. s ++ every 16 k (line k)) 16 (length s + start) (length s) (ceilDiv len 8) (omega arith) one)
+  where
+    add : (b : Bool) (l : ℕ) → length s + cond b l 0 ≡ cond b (length s + l) (length s)
+    add true l = refl
+    add false l = omega arith
+
+    one : (k : ℕ) → k < ceilDiv len 8 → length (s ++ every 16 k (line k)) ≡ cond (eqb (k % 16) 0) (length s + start) (length s)
+    one k h = length-append s (every 16 k (line k)) ∙ rw (every-length 16 k (line k), e k h) (add (eqb (k % 16) 0) start)

@@ -1,4 +1,0 @@
-pub mod Bytes
-pub mod Separator
-pub mod CArray
-pub mod Start
