@@ -9,8 +9,8 @@ use lib.ListN.{length, getD, take, drop}
 use lib.Seq.{sets, take-all}
 use Rattle.bitvec.specs.Size.{maxBits}
 use Rattle.ordering.specs.Order.{absent, inOrder}
-use Rattle.blocks.specs.Blocks.{Block, present, closed, running, blocksOf}
 use Rattle.ordering.proofs.Lists.{map-append, map-drop, map-length, part-left, part-there, sets-part}
+use Rattle.blocks.specs.Blocks.{Block, present, closed, running, blocksOf}
 use Rattle.blocks.proofs.Running.{present-absent, present-next, present-none, closed-some, running-joins, running-closes, running-last, running-first}
 
 -- The first `count` blocks are stored, a number of each; the others are those that come from the running block.

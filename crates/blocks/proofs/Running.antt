@@ -10,12 +10,12 @@ use native.Mathlib.Omega.{arith}
 use lib.Dec.{eqb, ltb}
 use lib.ListN.{length, getD, length-append}
 use borrow.Author.Tests.{eq-eqb, ne-eqb, eqb-true, ltb-false}
-use Rattle.output.proofs.Order.{by-order}
 use Rattle.bitvec.specs.Size.{maxBits}
+use Rattle.output.proofs.Order.{by-order}
 use Rattle.ordering.specs.Order.{absent, inOrder}
-use Rattle.blocks.specs.Blocks.{Block, present, closed, running, blocksIn, blocksOf, longList, badSpan, faultAt}
 use Rattle.ordering.proofs.Lists.{first-none, first-most}
 use Rattle.ordering.proofs.Keys.{inOrder-length}
+use Rattle.blocks.specs.Blocks.{Block, present, closed, running, blocksIn, blocksOf, longList, badSpan, faultAt}
 
 -- A span with an absent offset is left out, any other stands before the rest.
 pub present-absent : (offsets sizes : List ℕ) (p : ℕ) (rest : List ℕ) → getD offsets p 0 ≡ absent → present offsets sizes (p ∷ rest) ≡ present offsets sizes rest

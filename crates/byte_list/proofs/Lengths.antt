@@ -10,16 +10,15 @@ use lib.ListN.{length, length-append}
 use borrow.Author.Tests.{ne-eqb}
 use Rattle.bitvec.specs.Bits.{byteAt}
 use Rattle.bitvec.specs.Size.{ceilDiv}
-use Rattle.numbers.specs.declared.Letters.the-variants.{Lower}
 use Rattle.output.specs.Ascii.{ascii}
-use Rattle.numbers.specs.Digits.{byteText, digitCount}
 use Rattle.output.specs.Pieces.{pieces, every}
-use Rattle.numbers.proofs.Digits.{number-length, padded-length}
 use Rattle.output.proofs.Joined.{joined-length, between-length, every-length}
+use Rattle.numbers.specs.declared.Letters.the-variants.{Lower}
+use Rattle.numbers.specs.Digits.{byteText, digitCount}
+use Rattle.numbers.proofs.Digits.{number-length, padded-length}
 use Rattle.byte_list.specs.declared.LineStart.the-variants.{Newline, Comment}
 use Rattle.byte_list.specs.Bytes.{byteIn, byteList}
-use Rattle.byte_list.specs.Start.{addressComment}
-use Rattle.byte_list.specs.Start.{lineStart}
+use Rattle.byte_list.specs.Start.{addressComment, lineStart}
 
 -- A byte in radix 10 has its digits.
 pub decimal-length : (b : ℕ) → length (byteIn 10 b) ≡ digitCount 10 b

@@ -5,10 +5,10 @@ use Prim.Native.Nat.{ℕ}
 use lib.Dec.{eqb}
 use Rattle.bitvec.specs.Bits.{byteAt}
 use Rattle.bitvec.specs.Size.{ceilDiv}
-use Rattle.numbers.specs.declared.Letters.the-variants.{Lower}
 use Rattle.output.specs.Ascii.{ascii}
-use Rattle.numbers.specs.Digits.{byteText, numberText}
 use Rattle.output.specs.Pieces.{joined, every}
+use Rattle.numbers.specs.declared.Letters.the-variants.{Lower}
+use Rattle.numbers.specs.Digits.{byteText, numberText}
 
 -- A radix other than 10 and 16 is outside its range.
 unfoldable pub badRadix : ℕ → Bool

@@ -3,8 +3,8 @@
 use mathlib.Core.List.{List, _++_}
 use Prim.Native.Nat.{ℕ}
 use Prim.Native.Char.{code}
-use Rattle.numbers.specs.declared.Letters.the-variants.{Lower}
 use Rattle.output.specs.Ascii.{ascii}
+use Rattle.numbers.specs.declared.Letters.the-variants.{Lower}
 use Rattle.numbers.specs.Digits.{numberText, padded}
 use Rattle.byte_list.specs.declared.LineStart.{LineStart}
 use Rattle.byte_list.specs.declared.LineStart.the-variants.{Newline, Comment}

@@ -4,16 +4,16 @@
 ghost use mathlib.Core.Path.{_≡_};
 ghost use lib.ListN.{length};
 ghost use Rattle.outcome.specs.Outcome.{answerOf};
+ghost use Rattle.intelhex.specs.Hex.{hexOutcome};
 ghost use Rattle.format_plain.specs.Binary.{binaryOutcome, paddedIn};
 ghost use Rattle.format_plain.specs.Str.{strOutcome};
 ghost use Rattle.format_readmem.specs.Readmem.{readmembOutcome, readmemhOutcome};
 ghost use Rattle.format_separator.specs.Separator.{separatorOutcome};
 ghost use Rattle.format_c_array.specs.CArray.{cArrayOutcome};
 ghost use Rattle.format_list.specs.List.{listOutcome};
-ghost use Rattle.format_memory.specs.Mif.{mifOutcome};
-ghost use Rattle.format_memory.specs.Logisim.{logisimOutcome};
+ghost use Rattle.format_mif.specs.Mif.{mifOutcome};
+ghost use Rattle.format_logisim.specs.Logisim.{logisimOutcome};
 ghost use Rattle.format_dump.specs.Dump.{dumpOutcome};
-ghost use Rattle.intelhex.specs.Hex.{hexOutcome};
 ghost use Rattle.capi.specs.Returns.{Returns, flag};
 use format_dump::DumpOptions;
 use format_list::FormatListOptions;
@@ -161,7 +161,7 @@ pub extern "C" fn riceshoal_format_mif(
 ) -> u32
     ensures { λ r. ⌜ Returns (mifOutcome (now (image .entry)) bits (length (now (out .entry)))) r (now (value .exit)) (now (out .entry)) (now (out .exit)) ⌝ }
 {
-    give(format_memory::format_mif(image, bits, out), value)
+    give(format_mif::format_mif(image, bits, out), value)
 }
 
 #[no_mangle]
@@ -175,7 +175,7 @@ pub extern "C" fn riceshoal_format_logisim(
     ensures { λ r. ⌜ Returns (logisimOutcome (now (image .entry)) bits «bits_per_chunk» (length (now (out .entry)))) r (now (value .exit)) (now (out .entry)) (now (out .exit)) ⌝ }
 {
     give(
-        format_memory::format_logisim(image, bits, bits_per_chunk, out),
+        format_logisim::format_logisim(image, bits, bits_per_chunk, out),
         value,
     )
 }

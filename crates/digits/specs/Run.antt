@@ -4,9 +4,9 @@ use mathlib.Core.List.{List, [], _∷_, _++_}
 use Prim.Native.Nat.{ℕ, _+_, _*_, _/_, _%_}
 use lib.Dec.{eqb}
 use Rattle.bitvec.specs.Bits.{bitsAt}
+use Rattle.output.specs.Pieces.{pieces}
 use Rattle.numbers.specs.declared.Letters.the-variants.{Lower}
 use Rattle.numbers.specs.Digits.{digitChar}
-use Rattle.output.specs.Pieces.{pieces}
 
 -- The digit of w bits from bit i on, as a character.
 unfoldable pub digitAt : List ℕ → ℕ → ℕ → ℕ → ℕ

@@ -8,7 +8,7 @@ pub(crate) fn mif_row() -> u64
     ensures { λ r. ⌜ r ≤ 1 ⌝ }
 {
     let mut out = [OLD; 256];
-    let answer = format_memory::format_mif(&[0x12], 8, &mut out);
+    let answer = format_mif::format_mif(&[0x12], 8, &mut out);
     tell(
         b"MIF, byte 12",
         gave(
@@ -25,7 +25,7 @@ pub(crate) fn logisim_row() -> u64
     ensures { λ r. ⌜ r ≤ 1 ⌝ }
 {
     let mut out = [OLD; 256];
-    let answer = format_memory::format_logisim(&[0x12], 8, 4, &mut out);
+    let answer = format_logisim::format_logisim(&[0x12], 8, 4, &mut out);
     tell(
         b"Logisim chunk 4, byte 12",
         gave(answer, &out, 0, 14, b"v2.0 raw\n1 \n2 "),
@@ -36,7 +36,7 @@ pub(crate) fn empty_mif() -> u64
     ensures { λ r. ⌜ r ≤ 1 ⌝ }
 {
     let mut out = [OLD; 256];
-    let answer = format_memory::format_mif(b"", 0, &mut out);
+    let answer = format_mif::format_mif(b"", 0, &mut out);
     tell(
         b"refusal 4: MIF of an empty image",
         gave(answer, &out, 4, 0, b""),
@@ -47,6 +47,6 @@ pub(crate) fn logisim_no_chunk() -> u64
     ensures { λ r. ⌜ r ≤ 1 ⌝ }
 {
     let mut out = [OLD; 256];
-    let answer = format_memory::format_logisim(&[0x12], 8, 0, &mut out);
+    let answer = format_logisim::format_logisim(&[0x12], 8, 0, &mut out);
     tell(b"refusal 2: Logisim chunk 0", gave(answer, &out, 2, 0, b""))
 }

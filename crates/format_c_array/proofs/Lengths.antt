@@ -10,10 +10,9 @@ use Rattle.output.specs.Ascii.{ascii}
 use Rattle.numbers.proofs.Digits.{count-rises}
 use Rattle.byte_list.specs.declared.LineStart.the-variants.{Comment}
 use Rattle.byte_list.specs.Bytes.{byteList}
-use Rattle.byte_list.specs.Start.{addressComment}
+use Rattle.byte_list.specs.Start.{addressComment, lineStart}
 use Rattle.byte_list.proofs.Lengths.{comment-length}
 use Rattle.format_c_array.specs.CArray.{addressWidth, cArrayText}
-use Rattle.byte_list.specs.Start.{lineStart}
 
 -- The array of C: the list, the first comment, and the words around them.
 pub c-array-parts : (radix : ℕ) (bytes : List ℕ) (len : ℕ)

@@ -5,8 +5,8 @@ use Prim.Native.Nat.{ℕ, _-_}
 use lib.Dec.{eqb}
 use Rattle.bitvec.specs.Size.{badSize, ceilDiv}
 use Rattle.output.specs.Ascii.{ascii}
-use Rattle.numbers.specs.Digits.{digitCount}
 use Rattle.outcome.specs.Outcome.{Outcome, refused, inRoom}
+use Rattle.numbers.specs.Digits.{digitCount}
 use Rattle.byte_list.specs.Bytes.{badRadix, byteList}
 use Rattle.byte_list.specs.Start.{addressComment}
 

@@ -8,12 +8,12 @@ use native.Mathlib.Omega.{arith}
 use lib.ListN.{length, length-append}
 use borrow.Author.Tests.{lt-ltb, le-ltb}
 use Rattle.output.specs.Ascii.{ascii}
-use Rattle.numbers.specs.Digits.{digitCount}
 use Rattle.output.specs.Pieces.{pieces, joined, every}
 use Rattle.output.proofs.Order.{by-order}
-use Rattle.numbers.proofs.Digits.{number-length, padded-length}
 use Rattle.output.proofs.Pieces.{pieces-length}
 use Rattle.output.proofs.Joined.{joined-length, every-length, between-length}
+use Rattle.numbers.specs.Digits.{digitCount}
+use Rattle.numbers.proofs.Digits.{number-length, padded-length}
 use Rattle.format_dump.specs.Dump.{dumpDigit, dumpChar, dumpByte, dumpLine, dumpLines, dumpText}
 
 -- A byte has a digit for each w bits, and a space.

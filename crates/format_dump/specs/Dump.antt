@@ -6,11 +6,11 @@ use Prim.Native.Char.{code}
 use lib.Dec.{eqb, ltb}
 use Rattle.bitvec.specs.Bits.{bitsAt}
 use Rattle.bitvec.specs.Size.{badSize}
-use Rattle.numbers.specs.declared.Letters.the-variants.{Lower}
 use Rattle.output.specs.Ascii.{ascii}
-use Rattle.numbers.specs.Digits.{digitCount, numberText, padded}
 use Rattle.output.specs.Pieces.{pieces, joined, every}
 use Rattle.outcome.specs.Outcome.{Outcome, refused, outside, inRoom}
+use Rattle.numbers.specs.declared.Letters.the-variants.{Lower}
+use Rattle.numbers.specs.Digits.{digitCount, numberText, padded}
 use Rattle.digits.specs.Run.{digitAt}
 use Rattle.format_dump.specs.declared.DumpOptions.{DumpOptions}
 

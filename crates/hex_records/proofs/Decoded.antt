@@ -10,10 +10,10 @@ use native.Mathlib.Omega.{arith}
 use lib.ListN.{length, length-append}
 use lib.Seq.{take-at}
 use borrow.Author.Tests.{lt-ltb, le-ltb, le-leb, lt-leb, eq-eqb, ne-eqb}
-use Rattle.numbers.specs.declared.Letters.the-variants.{Upper}
 use Rattle.output.specs.Ascii.{ascii}
-use Rattle.numbers.specs.Digits.{digitChar, byteText}
 use Rattle.output.proofs.Order.{by-order}
+use Rattle.numbers.specs.declared.Letters.the-variants.{Upper}
+use Rattle.numbers.specs.Digits.{digitChar, byteText}
 use Rattle.ordering.specs.Lists.{Each}
 use Rattle.ordering.proofs.Lists.{each-append}
 use Rattle.hex_records.specs.Plan.{Chunk}

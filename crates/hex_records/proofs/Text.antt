@@ -7,8 +7,8 @@ use native.Mathlib.Omega.{arith}
 use lib.ListN.{length, length-append}
 use Rattle.bitvec.specs.Bits.{bitsAt}
 use Rattle.bitvec.proofs.Bits.{bits-small}
-use Rattle.numbers.specs.declared.Letters.the-variants.{Upper}
 use Rattle.output.specs.Ascii.{ascii}
+use Rattle.numbers.specs.declared.Letters.the-variants.{Upper}
 use Rattle.numbers.specs.Digits.{byteText}
 use Rattle.ordering.specs.Lists.{table, Each}
 use Rattle.ordering.proofs.Lists.{table-next, table-length, each-table}

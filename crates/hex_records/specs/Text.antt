@@ -2,8 +2,8 @@
 use mathlib.Core.List.{List, [], _∷_, _++_, flatMap}
 use Prim.Native.Nat.{ℕ, _+_, _-_, _*_, _/_, _%_}
 use Rattle.bitvec.specs.Bits.{bitsAt}
-use Rattle.numbers.specs.declared.Letters.the-variants.{Upper}
 use Rattle.output.specs.Ascii.{ascii}
+use Rattle.numbers.specs.declared.Letters.the-variants.{Upper}
 use Rattle.numbers.specs.Digits.{byteText}
 use Rattle.ordering.specs.Lists.{table}
 use Rattle.hex_records.specs.Plan.{Chunk}

@@ -9,8 +9,8 @@ use native.Mathlib.Omega.{arith}
 use lib.Dec.{ltb}
 use lib.ListN.{length}
 use Rattle.bitvec.specs.Size.{badSize}
-use Rattle.outcome.specs.Outcome.{Outcome, text, refused, answer, outside, inRoom}
 use Rattle.output.proofs.Order.{by-order}
+use Rattle.outcome.specs.Outcome.{Outcome, text, refused, answer, outside, inRoom}
 use Rattle.outcome.proofs.Outcome.{room-enough, room-short}
 use Rattle.ordering.proofs.Lists.{each-both}
 use Rattle.blocks.specs.Blocks.{blocksOf, longList, faultAt}

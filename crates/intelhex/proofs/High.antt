@@ -10,8 +10,8 @@ use native.Mathlib.Omega.{arith}
 use lib.Dec.{ltb}
 use lib.ListN.{length}
 use borrow.Author.Tests.{lt-ltb, le-ltb, ltb-false}
-use Rattle.output.proofs.Order.{by-order}
 use Rattle.bitvec.specs.Size.{ceilDiv}
+use Rattle.output.proofs.Order.{by-order}
 use Rattle.ordering.specs.Lists.{table, Each}
 use Rattle.ordering.proofs.Lists.{table-next, each-table}
 use Rattle.blocks.specs.Blocks.{Block}

@@ -9,9 +9,9 @@ use native.Mathlib.Omega.{arith}
 use lib.Dec.{ltb}
 use lib.ListN.{length, take}
 use Rattle.bitvec.specs.Size.{badSize}
+use Rattle.output.proofs.Order.{by-order}
 use Rattle.outcome.specs.declared.Export.{Export}
 use Rattle.outcome.specs.Outcome.{Outcome, text, refused, answer, answerOf, left, outside, inRoom, Exports}
-use Rattle.output.proofs.Order.{by-order}
 use Rattle.outcome.proofs.Outcome.{room-enough, room-short}
 use Rattle.ordering.specs.Lists.{Each}
 use Rattle.ordering.proofs.Lists.{each-both, each-map, sets-front}

@@ -6,10 +6,10 @@ use mathlib.Core.Logic.{_≢_}
 use mathlib.Core.List.{List}
 use Prim.Native.Nat.{ℕ, _≤_, _<_}
 use native.Mathlib.Omega.{arith}
+use Rattle.output.specs.Writes.{Writes}
 use Rattle.outcome.specs.declared.Export.{Export}
 use Rattle.outcome.specs.declared.Export.the-variants.{Text, ImageSize, OptionRange, SpanRange, EmptyImage, AddressRange, SourceText, SpanFault, NoRoom}
 use Rattle.outcome.specs.Outcome.{Outcome, text, refused, Answer, answer, answerOf, left, Exports}
-use Rattle.output.specs.Writes.{Writes}
 use Rattle.intelhex.proofs.Conforms.{exported, text-given}
 use Rattle.job.specs.Job.{badJob, jobOutcome, printed}
 

@@ -5,10 +5,10 @@ use Prim.Native.Nat.{ℕ, _+_, _*_}
 use lib.Dec.{ltb}
 use lib.ListN.{length, getD, take, drop}
 use Rattle.bitvec.specs.Size.{ceilDiv}
-use Rattle.numbers.specs.declared.Letters.the-variants.{Lower}
 use Rattle.output.specs.Ascii.{ascii}
-use Rattle.numbers.specs.Digits.{numberText}
 use Rattle.outcome.specs.Outcome.{Outcome, text, refused}
+use Rattle.numbers.specs.declared.Letters.the-variants.{Lower}
+use Rattle.numbers.specs.Digits.{numberText}
 use Rattle.ordering.specs.Lists.{table}
 use Rattle.intelhex.specs.Hex.{hexOutcome}
 

@@ -9,10 +9,10 @@ use native.Mathlib.Nat.{pow-suc, div-lt-self, div-lt-iff-lt-mul, div-eq-of-lt, m
 use lib.Dec.{ltb}
 use lib.ListN.{length, replicate, length-append, length-map, length-replicate}
 use borrow.Author.Tests.{lt-ltb, le-ltb, ltb-false}
+use Rattle.output.proofs.Order.{by-order}
 use Rattle.numbers.specs.declared.Letters.{Letters}
 use Rattle.numbers.specs.declared.Letters.the-variants.{Lower, Upper}
 use Rattle.numbers.specs.Digits.{letterTen, digitChar, byteText, digitsIn, digits, digitCount, numberText, padded}
-use Rattle.output.proofs.Order.{by-order}
 
 pub letter-small : (letters : Letters) → letterTen letters ≤ 97
 letter-small Lower = omega arith

@@ -9,9 +9,9 @@ use native.Mathlib.Omega.{arith}
 use lib.Dec.{ltb}
 use lib.ListN.{length}
 use borrow.Author.Tests.{lt-ltb, le-ltb, ltb-false}
+use Rattle.output.specs.Writes.{Writes}
 use Rattle.outcome.specs.declared.Export.the-variants.{Text, NoRoom}
 use Rattle.outcome.specs.Outcome.{text, refused, answerOf, outside, tooLong, inRoom, Exports}
-use Rattle.output.specs.Writes.{Writes}
 
 -- An option that is not outside its range is in it.
 pub inside : (low high option : ℕ) → outside low high option ≡ false → (low ≤ option) × (option ≤ high)

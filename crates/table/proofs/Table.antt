@@ -5,9 +5,9 @@ use mathlib.Core.List.{map, flatMap}
 use Rattle.bitvec.specs.Bits.{bitAt, bitsAt}
 use Rattle.bitvec.specs.Size.{badSize, ceilDiv}
 use Rattle.output.specs.Ascii.{ascii}
-use Rattle.numbers.specs.Digits.{digitChar, byteText}
 use Rattle.output.specs.Pieces.{pieces, leading, joined, every}
 use Rattle.outcome.specs.Outcome.{text, outside, tooLong}
+use Rattle.numbers.specs.Digits.{digitChar, byteText}
 use Rattle.digits.specs.Run.{digitAt, run, shortDigit, hexLine}
 use Rattle.digits.specs.Parts.{partBits}
 use Rattle.digits.specs.Base.{baseBits}
@@ -20,7 +20,7 @@ use Rattle.intelhex.specs.Hex.{planOutcome, hexOutcome}
 use Rattle.format_plain.specs.Str.{strText, strOutcome}
 use Rattle.format_readmem.specs.Readmem.{lineText, readmemText, readmemOutcome}
 use Rattle.format_list.specs.List.{groupText, betweenGroups, listText, badList, listOutcome}
-use Rattle.format_memory.specs.Logisim.{chunkText, logisimText, logisimOutcome}
+use Rattle.format_logisim.specs.Logisim.{chunkText, logisimText, logisimOutcome}
 use Rattle.table.specs.Table.{Row, rows}
 
 pub table : map (λ (r : Row). r .given) rows ≡ map (λ (r : Row). text (ascii (r .printed))) rows

@@ -3,13 +3,13 @@
 use mathlib.Core.List.{List, [], _∷_}
 use Prim.Native.Nat.{ℕ}
 use Prim.Native.String.{String}
+use Rattle.output.specs.Ascii.{ascii}
 use Rattle.outcome.specs.Outcome.{Outcome}
 use Rattle.intelhex.specs.Hex.{hexOutcome}
 use Rattle.format_plain.specs.Str.{strOutcome}
 use Rattle.format_readmem.specs.Readmem.{readmembOutcome, readmemhOutcome}
 use Rattle.format_list.specs.List.{listOutcome}
-use Rattle.format_memory.specs.Logisim.{logisimOutcome}
-use Rattle.output.specs.Ascii.{ascii}
+use Rattle.format_logisim.specs.Logisim.{logisimOutcome}
 
 pub record Row : Type 0 where
   pub given : Outcome

@@ -227,9 +227,9 @@ fn export_plain(line: Line, image: &[u8], out: &mut [u8]) -> Export {
         return format_c_array::format_c_array(image, line.bits, line.option, out);
     }
     if line.kind == b'i' {
-        return format_memory::format_mif(image, line.bits, out);
+        return format_mif::format_mif(image, line.bits, out);
     }
-    format_memory::format_logisim(image, line.bits, line.option, out)
+    format_logisim::format_logisim(image, line.bits, line.option, out)
 }
 
 // The exporter that a line's letter stands for.

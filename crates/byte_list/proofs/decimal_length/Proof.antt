@@ -8,8 +8,8 @@ use lib.ListN.{length, length-append}
 use borrow.Author.Needs.{needs}
 use Rattle.bitvec.specs.Bits.{byteAt}
 use Rattle.output.specs.Pieces.{pieces}
-use Rattle.numbers.proofs.Digits.{count-small}
 use Rattle.output.proofs.Pieces.{pieces-none, pieces-next}
+use Rattle.numbers.proofs.Digits.{count-small}
 use Rattle.byte_list.specs.Bytes.{byteIn}
 use Rattle.byte_list.proofs.Lengths as lengths
 use Rattle.byte_list.proofs.decimal_length.Statement.{statement}

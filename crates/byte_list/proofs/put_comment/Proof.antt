@@ -4,10 +4,10 @@ use Prim.Native.Nat.{_+_, _≤_, max}
 use native.Mathlib.Omega.{arith}
 use lib.ListN.{length}
 use borrow.Author.Needs.{needs}
+use Rattle.output.proofs.Writes.{writes-then}
 use Rattle.numbers.specs.declared.Letters.the-variants.{Lower}
 use Rattle.numbers.specs.Digits.{digitCount, numberText}
 use Rattle.numbers.proofs.Digits.{number-length, padded-length}
-use Rattle.output.proofs.Writes.{writes-then}
 use Rattle.byte_list.specs.Start.{addressComment}
 use Rattle.byte_list.proofs.Lengths.{comment-length}
 use Rattle.byte_list.proofs.put_comment.Statement.{statement}

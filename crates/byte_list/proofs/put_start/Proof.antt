@@ -8,8 +8,7 @@ use borrow.Author.Needs.{needs}
 use Rattle.output.specs.Ascii.{ascii}
 use Rattle.output.proofs.Writes.{writes-then}
 use Rattle.byte_list.specs.declared.LineStart.{LineStart}
-use Rattle.byte_list.specs.Start.{addressComment}
-use Rattle.byte_list.specs.Start.{lineStart}
+use Rattle.byte_list.specs.Start.{addressComment, lineStart}
 use Rattle.byte_list.proofs.put_start.Statement.{statement}
 use Rattle.byte_list.proofs.put_start.Tie as tie
 

@@ -9,8 +9,8 @@ use Rattle.output.specs.Ascii.{ascii}
 use Rattle.numbers.proofs.Digits.{count-small}
 use Rattle.byte_list.specs.declared.LineStart.the-variants.{Comment}
 use Rattle.byte_list.specs.Start.{lineStart}
-use Rattle.format_c_array.specs.CArray.{addressWidth}
 use Rattle.byte_list.proofs.Lengths.{start-length}
+use Rattle.format_c_array.specs.CArray.{addressWidth}
 use Rattle.format_c_array.proofs.Lengths.{c-array-parts, address-length}
 use Rattle.format_c_array.proofs.c_array_length.Statement.{statement}
 use Rattle.format_c_array.proofs.c_array_length.Tie as tie

@@ -8,9 +8,8 @@ use Rattle.output.specs.Ascii.{ascii}
 use Rattle.output.proofs.Writes.{writes-then}
 use Rattle.byte_list.specs.declared.LineStart.the-variants.{Comment}
 use Rattle.byte_list.specs.Bytes.{byteList}
-use Rattle.byte_list.specs.Start.{addressComment}
+use Rattle.byte_list.specs.Start.{addressComment, lineStart}
 use Rattle.format_c_array.specs.CArray.{cArrayText}
-use Rattle.byte_list.specs.Start.{lineStart}
 use Rattle.format_c_array.proofs.Lengths.{c-array-parts}
 use Rattle.format_c_array.proofs.write_c_array.Statement.{statement}
 use Rattle.format_c_array.proofs.write_c_array.Tie as tie

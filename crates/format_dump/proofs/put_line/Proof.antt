@@ -6,13 +6,13 @@ use Prim.Native.Nat.{ℕ, _+_, _*_, _≤_}
 use native.Mathlib.Omega.{arith}
 use lib.ListN.{length, length-append}
 use borrow.Author.Needs.{needs}
-use Rattle.numbers.specs.declared.Letters.the-variants.{Lower}
 use Rattle.output.specs.Ascii.{ascii}
-use Rattle.numbers.specs.Digits.{numberText, padded}
 use Rattle.output.specs.Pieces.{pieces, joined}
-use Rattle.numbers.proofs.Digits.{number-length, padded-length}
 use Rattle.output.proofs.Pieces.{pieces-length}
 use Rattle.output.proofs.Writes.{writes-then, room-then}
+use Rattle.numbers.specs.declared.Letters.the-variants.{Lower}
+use Rattle.numbers.specs.Digits.{numberText, padded}
+use Rattle.numbers.proofs.Digits.{number-length, padded-length}
 use Rattle.format_dump.specs.Dump.{dumpChar, dumpLine}
 use Rattle.format_dump.proofs.Lengths.{gap, lineByte}
 use Rattle.format_dump.proofs.put_line.Statement.{statement}

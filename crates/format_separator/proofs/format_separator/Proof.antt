@@ -13,8 +13,8 @@ use Rattle.outcome.proofs.Outcome.{short, exports-text, exports-no-room}
 use Rattle.byte_list.specs.declared.LineStart.the-variants.{Newline}
 use Rattle.byte_list.specs.Bytes.{badRadix}
 use Rattle.byte_list.specs.Start.{lineStart}
-use Rattle.format_separator.specs.Separator.{separatorText, separatorOutcome}
 use Rattle.byte_list.proofs.Lengths.{newline-length}
+use Rattle.format_separator.specs.Separator.{separatorText, separatorOutcome}
 use Rattle.format_separator.proofs.format_separator.Statement.{statement}
 use Rattle.format_separator.proofs.format_separator.Tie as tie
 

@@ -1,8 +1,8 @@
 -- `numbers::put_byte` meets its contract: two writers, one after the other.
 -- Assumes nothing.
 use borrow.Author.Needs.{needs}
-use Rattle.numbers.specs.Digits.{byteText}
 use Rattle.output.proofs.Writes.{writes-then}
+use Rattle.numbers.specs.Digits.{byteText}
 use Rattle.numbers.proofs.put_byte.Statement.{statement}
 use Rattle.numbers.proofs.put_byte.Tie as tie
 

@@ -8,9 +8,9 @@ use native.Mathlib.Omega.{arith}
 use lib.ListN.{length, length-set}
 use lib.Seq.{sets}
 use borrow.Author.Needs.{needs}
+use Rattle.output.proofs.Writes.{sets-before}
 use Rattle.numbers.specs.Digits.{digitChar, digitCount, numberText}
 use Rattle.numbers.proofs.Digits.{smaller, count-last, count-more, count-some, number-last, number-more, number-length}
-use Rattle.output.proofs.Writes.{sets-before}
 use Rattle.numbers.proofs.put_number.Statement.{statement}
 use Rattle.numbers.proofs.put_number.Tie as tie
 

@@ -5,9 +5,9 @@ use Prim.Native.Nat.{_-_}
 use native.Mathlib.Omega.{arith}
 use lib.ListN.{length, length-replicate}
 use borrow.Author.Needs.{needs}
+use Rattle.output.proofs.Writes.{writes-then}
 use Rattle.numbers.specs.Digits.{numberText, padded}
 use Rattle.numbers.proofs.Digits.{number-length}
-use Rattle.output.proofs.Writes.{writes-then}
 use Rattle.numbers.proofs.put_padded.Statement.{statement}
 use Rattle.numbers.proofs.put_padded.Tie as tie
 

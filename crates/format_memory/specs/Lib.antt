@@ -1,2 +1,0 @@
-pub mod Mif
-pub mod Logisim

@@ -1,0 +1,100 @@
+// The memory initialization file (document 01, module 5; the Rust's `format_mif`). It answers a text
+// and its length, or refusal 1, 4 or 8.
+ghost use mathlib.Core.Path.{_≡_};
+ghost use mathlib.Core.List.{List};
+ghost use Prim.Native.Nat.{ℕ, _+_, _-_, _≤_, _<_, _^_};
+ghost use lib.ListN.{length};
+ghost use Rattle.bitvec.specs.Size.{ceilDiv};
+ghost use Rattle.output.specs.Pieces.{pieces};
+ghost use Rattle.output.specs.Writes.{Writes};
+ghost use Rattle.outcome.specs.Outcome.{Exports};
+ghost use Rattle.numbers.specs.Digits.{digitCount};
+ghost use Rattle.format_mif.specs.Mif.{mifLine, mifText, mifOutcome};
+use bitvec::BitOffset;
+use numbers::Letters;
+use outcome::Export;
+
+// The length of the file of `count` bytes whose addresses have `width` digits.
+fn mif_length(count: usize, width: usize) -> usize
+    requires { ⌜ (count ≤ 2 ^ 24) × (width ≡ digitCount 16 (count - 1)) ⌝ }
+    ensures { λ r. ⌜ ((bytes : List ℕ) (len : ℕ) → count ≡ ceilDiv len 8 → length (mifText bytes len) ≡ r) ⌝ }
+{
+    let depth = numbers::digit_count(count as u64, 10);
+    depth + count * (width + 7) + 79
+}
+
+// Stores the line of byte `k`.
+fn put_mif_line(
+    out: &mut [u8],
+    at: usize,
+    image: &[u8],
+    bits: usize,
+    width: usize,
+    k: usize,
+) -> usize
+    requires { ⌜ (k < 2 ^ 32) × (at + length (mifLine (now image) bits width k) ≤ length (now out)) ⌝ }
+    ensures { λ r. ⌜ Writes (mifLine (now (image .entry)) bits width k) (now (out .entry)) at (now (out .exit)) r ⌝ }
+{
+    let byte = bitvec::read_byte(image, bits, BitOffset(k * 8));
+    let mut next = output::put(out, at, b' ');
+    next = numbers::put_padded(out, next, Letters::Upper, k as u64, 16, b' ', width);
+    next = output::put_all(out, next, b": ");
+    next = numbers::put_byte(out, next, Letters::Upper, byte);
+    output::put_all(out, next, b";\n")
+}
+
+// Stores the lines of `count` bytes.
+fn put_mif_lines(
+    out: &mut [u8],
+    at: usize,
+    image: &[u8],
+    bits: usize,
+    width: usize,
+    count: usize,
+) -> usize
+    requires { ⌜ (count < 2 ^ 32) × (at + length (pieces (mifLine (now image) bits width) count) ≤ length (now out)) ⌝ }
+    ensures { λ r. ⌜ Writes (pieces (mifLine (now (image .entry)) bits width) count) (now (out .entry)) at (now (out .exit)) r ⌝ }
+{
+    let mut next = at;
+    let mut k = 0;
+    while k < count {
+        next = put_mif_line(out, next, image, bits, width, k);
+        k += 1;
+    }
+    next
+}
+
+// Stores the file, of `count` bytes.
+fn write_mif(image: &[u8], bits: usize, count: usize, width: usize, out: &mut [u8]) -> usize
+    requires { ⌜ (count < 2 ^ 32) × (count ≡ ceilDiv bits 8) × (width ≡ digitCount 16 (count - 1)) × (length (mifText (now image) bits) ≤ length (now out)) ⌝ }
+    ensures { λ r. ⌜ Writes (mifText (now (image .entry)) bits) (now (out .entry)) 0 (now (out .exit)) r ⌝ }
+{
+    let mut next = output::put_all(out, 0, b"DEPTH = ");
+    next = numbers::put_number(out, next, Letters::Lower, count as u64, 10);
+    next = output::put_all(
+        out,
+        next,
+        b";\nWIDTH = 8;\nADDRESS_RADIX = HEX;\nDATA_RADIX = HEX;\n\nCONTENT\nBEGIN\n",
+    );
+    next = put_mif_lines(out, next, image, bits, width, count);
+    output::put_all(out, next, b"END;")
+}
+
+// A line for each byte of an image that is not empty.
+pub fn format_mif(image: &[u8], bits: usize, out: &mut [u8]) -> Export
+    ensures { λ r. ⌜ Exports (mifOutcome (now (image .entry)) bits (length (now (out .entry)))) r (now (out .entry)) (now (out .exit)) ⌝ }
+{
+    if bitvec::bad_size(image, bits) {
+        return Export::ImageSize;
+    }
+    if bits == 0 {
+        return Export::EmptyImage;
+    }
+    let count = bitvec::parts(bits, 8);
+    let width = numbers::digit_count((count - 1) as u64, 16);
+    let needed = mif_length(count, width);
+    if out.len() < needed {
+        return Export::NoRoom(needed);
+    }
+    Export::Text(write_mif(image, bits, count, width, out))
+}
