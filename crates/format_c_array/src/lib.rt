@@ -1,7 +1,7 @@
 // The bytes of an image as an array of C (document 01, module 4; the Rust's `format_c_array`). It
 // answers a text and its length, or refusal 1, 2, 4 or 8.
 ghost use mathlib.Core.Path.{_≡_};
-ghost use Prim.Native.Nat.{_+_, _≤_, _<_, _^_};
+ghost use Prim.Native.Nat.{_≤_, _<_, _^_};
 ghost use lib.ListN.{length};
 ghost use Rattle.bitvec.specs.Size.{ceilDiv};
 ghost use Rattle.output.specs.Writes.{Writes};

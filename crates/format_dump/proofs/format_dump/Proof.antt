@@ -15,8 +15,9 @@ use Rattle.outcome.proofs.Outcome.{exports-text, exports-no-room}
 use Rattle.numbers.specs.Digits.{digitCount}
 use Rattle.numbers.proofs.Digits.{count-small, count-some, count-rises}
 use Rattle.digits.proofs.Parts.{stride}
+use Rattle.dump_line.proofs.Lengths.{line-length, columns-small}
 use Rattle.format_dump.specs.Dump.{inRange, dumpText, dumpOutcome}
-use Rattle.format_dump.proofs.Lengths.{line-length, columns-small, text-length, lines-some, lines-reach}
+use Rattle.format_dump.proofs.Lengths.{text-length, lines-some, lines-reach}
 use Rattle.format_dump.proofs.Range.{in-range}
 use Rattle.format_dump.proofs.format_dump.Statement.{statement}
 use Rattle.format_dump.proofs.format_dump.Tie as tie

@@ -12,7 +12,8 @@ use Rattle.output.specs.Writes.{Writes}
 use Rattle.output.proofs.Pieces.{pieces-none, pieces-next, pieces-room}
 use Rattle.output.proofs.Writes.{writes-nothing, writes-then}
 use Rattle.digits.proofs.Parts.{stride}
-use Rattle.format_dump.specs.Dump.{dumpLine, dumpText}
+use Rattle.dump_line.specs.Line.{dumpLine}
+use Rattle.format_dump.specs.Dump.{dumpText}
 use Rattle.format_dump.proofs.Lengths.{text-lines, lines-reach}
 use Rattle.format_dump.proofs.write_dump.Statement.{statement}
 use Rattle.format_dump.proofs.write_dump.Tie as tie

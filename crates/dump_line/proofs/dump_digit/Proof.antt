@@ -1,13 +1,13 @@
--- `format_dump::dump_digit` meets its contract: a point past the end, and else the digit that is read.
+-- `dump_line::dump_digit` meets its contract: a point past the end, and else the digit that is read.
 -- Assumes nothing.
 use native.Mathlib.Omega.{arith}
 use borrow.Author.Tests.{lt-ltb, le-ltb}
 use borrow.Author.Needs.{needs}
 use Rattle.bitvec.proofs.Bits.{bits-below}
 use Rattle.digits.specs.Run.{digitAt}
-use Rattle.format_dump.specs.Dump.{dumpDigit}
-use Rattle.format_dump.proofs.dump_digit.Statement.{statement}
-use Rattle.format_dump.proofs.dump_digit.Tie as tie
+use Rattle.dump_line.specs.Line.{dumpDigit}
+use Rattle.dump_line.proofs.dump_digit.Statement.{statement}
+use Rattle.dump_line.proofs.dump_digit.Tie as tie
 
 returns : tie.Need-returns
 unfolding dumpDigit

@@ -1,12 +1,12 @@
--- `format_dump::put_gap` meets its contract: nothing before the first byte, and before any other a space where 4 divides its number.
+-- `dump_line::put_gap` meets its contract: nothing before the first byte, and before any other a space where 4 divides its number.
 -- Assumes nothing.
 use native.Mathlib.Omega.{arith}
 use borrow.Author.Tests.{eq-eqb, ne-eqb}
 use borrow.Author.Needs.{needs}
 use Rattle.output.specs.Pieces.{leading}
 use Rattle.output.proofs.Writes.{writes-nothing}
-use Rattle.format_dump.proofs.put_gap.Statement.{statement}
-use Rattle.format_dump.proofs.put_gap.Tie as tie
+use Rattle.dump_line.proofs.put_gap.Statement.{statement}
+use Rattle.dump_line.proofs.put_gap.Tie as tie
 
 returns : tie.Need-returns
 unfolding leading

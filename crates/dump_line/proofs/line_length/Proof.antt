@@ -1,12 +1,12 @@
--- `format_dump::line_length` meets its contract: the length is that of the line's parts, and nothing wraps.
+-- `dump_line::line_length` meets its contract: the length is that of the line's parts, and nothing wraps.
 -- Assumes nothing.
 use Prim.Native.Nat.{_+_, _*_, _/_, _≤_}
 use native.Mathlib.Nat.{div-le-self}
 use native.Mathlib.Omega.{arith}
 use borrow.Author.Needs.{needs}
-use Rattle.format_dump.proofs.Lengths.{line-length, columns-small}
-use Rattle.format_dump.proofs.line_length.Statement.{statement}
-use Rattle.format_dump.proofs.line_length.Tie as tie
+use Rattle.dump_line.proofs.Lengths.{line-length, columns-small}
+use Rattle.dump_line.proofs.line_length.Statement.{statement}
+use Rattle.dump_line.proofs.line_length.Tie as tie
 
 -- the products are small
 columns : (c : tie.After-between-length) → c .before .args .count * (8 / c .before .args .width + 2) ≤ 64 * 10

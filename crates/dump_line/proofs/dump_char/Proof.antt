@@ -1,10 +1,10 @@
--- `format_dump::dump_char` meets its contract: the byte that is read is the byte that is printed.
+-- `dump_line::dump_char` meets its contract: the byte that is read is the byte that is printed.
 -- Assumes nothing.
 use borrow.Author.Tests.{lt-ltb, le-ltb}
 use borrow.Author.Needs.{needs}
-use Rattle.format_dump.specs.Dump.{dumpChar}
-use Rattle.format_dump.proofs.dump_char.Statement.{statement}
-use Rattle.format_dump.proofs.dump_char.Tie as tie
+use Rattle.dump_line.specs.Line.{dumpChar}
+use Rattle.dump_line.proofs.dump_char.Statement.{statement}
+use Rattle.dump_line.proofs.dump_char.Tie as tie
 
 returns : tie.Need-returns
 unfolding dumpChar

@@ -1,4 +1,4 @@
--- `format_dump::put_char_column` meets its contract: after j turns j characters are written.
+-- `dump_line::put_char_column` meets its contract: after j turns j characters are written.
 -- Assumes nothing.
 use mathlib.Core.Path.{_≡_, refl}
 use mathlib.Core.List.{[], _∷_}
@@ -10,9 +10,9 @@ use Rattle.output.specs.Pieces.{pieces}
 use Rattle.output.specs.Writes.{Writes}
 use Rattle.output.proofs.Pieces.{pieces-none, pieces-next}
 use Rattle.output.proofs.Writes.{writes-nothing, writes-then}
-use Rattle.format_dump.specs.Dump.{dumpChar}
-use Rattle.format_dump.proofs.put_char_column.Statement.{statement}
-use Rattle.format_dump.proofs.put_char_column.Tie as tie
+use Rattle.dump_line.specs.Line.{dumpChar}
+use Rattle.dump_line.proofs.put_char_column.Statement.{statement}
+use Rattle.dump_line.proofs.put_char_column.Tie as tie
 
 abbrev Inv-loop : tie.InvT-loop
 Inv-loop out₀ at image bits first count next₀ j₀ out next j =

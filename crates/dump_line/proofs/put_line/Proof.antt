@@ -1,4 +1,4 @@
--- `format_dump::put_line` meets its contract: one writer after another, each with room for what is left of the line.
+-- `dump_line::put_line` meets its contract: one writer after another, each with room for what is left of the line.
 -- Assumes nothing.
 use mathlib.Core.Path.{refl}
 use mathlib.Core.List.{List, [], _∷_, _++_}
@@ -13,10 +13,10 @@ use Rattle.output.proofs.Writes.{writes-then, room-then}
 use Rattle.numbers.specs.declared.Letters.the-variants.{Lower}
 use Rattle.numbers.specs.Digits.{numberText, padded}
 use Rattle.numbers.proofs.Digits.{number-length, padded-length}
-use Rattle.format_dump.specs.Dump.{dumpChar, dumpLine}
-use Rattle.format_dump.proofs.Lengths.{gap, lineByte}
-use Rattle.format_dump.proofs.put_line.Statement.{statement}
-use Rattle.format_dump.proofs.put_line.Tie as tie
+use Rattle.dump_line.specs.Line.{dumpChar, dumpLine}
+use Rattle.dump_line.proofs.Lengths.{gap, lineByte}
+use Rattle.dump_line.proofs.put_line.Statement.{statement}
+use Rattle.dump_line.proofs.put_line.Tie as tie
 
 -- the parts of the line, and the line from each of them on
 abbrev chars : tie.Start → List ℕ

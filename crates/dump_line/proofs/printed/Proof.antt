@@ -1,13 +1,13 @@
--- `format_dump::printed` meets its contract: each return goes by the tests that led to it.
+-- `dump_line::printed` meets its contract: each return goes by the tests that led to it.
 -- Assumes nothing.
 use mathlib.Core.Path.{_≡_}
 use mathlib.Core.Bool.{false, _||_}
 use mathlib.Core.Logic.{⊎-elim}
 use lib.Dec.{eqb}
 use borrow.Author.Tests.{eq-eqb, ne-eqb, lt-ltb, le-ltb}
-use Rattle.format_dump.specs.Dump.{printed}
-use Rattle.format_dump.proofs.printed.Statement.{statement}
-use Rattle.format_dump.proofs.printed.Tie as tie
+use Rattle.dump_line.specs.Line.{printed}
+use Rattle.dump_line.proofs.printed.Statement.{statement}
+use Rattle.dump_line.proofs.printed.Tie as tie
 
 -- past the first test the byte is no white space
 no-space : (c : tie.Else4) → (let b = c .before .before .before .before .args .byte in eqb b 32 || (eqb b 9 || (eqb b 13 || eqb b 10)) ≡ false)

@@ -1,4 +1,4 @@
--- `format_dump::put_digit_column` meets its contract: after j turns j bytes are written, each with what stands before it.
+-- `dump_line::put_digit_column` meets its contract: after j turns j bytes are written, each with what stands before it.
 -- Assumes nothing.
 use mathlib.Core.Path.{_≡_, refl}
 use Prim.Native.Nat.{_+_, _-_, _*_, _≤_}
@@ -9,9 +9,9 @@ use Rattle.output.specs.Pieces.{leading, joined}
 use Rattle.output.specs.Writes.{Writes}
 use Rattle.output.proofs.Joined.{joined-none, joined-next, joined-room}
 use Rattle.output.proofs.Writes.{writes-nothing, writes-then}
-use Rattle.format_dump.proofs.Lengths.{gap, lineByte, byte-length}
-use Rattle.format_dump.proofs.put_digit_column.Statement.{statement}
-use Rattle.format_dump.proofs.put_digit_column.Tie as tie
+use Rattle.dump_line.proofs.Lengths.{gap, lineByte, byte-length}
+use Rattle.dump_line.proofs.put_digit_column.Statement.{statement}
+use Rattle.dump_line.proofs.put_digit_column.Tie as tie
 
 abbrev Inv-loop : tie.InvT-loop
 Inv-loop out₀ at image bits width first count next₀ j₀ out next j =

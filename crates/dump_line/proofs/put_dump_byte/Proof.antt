@@ -1,4 +1,4 @@
--- `format_dump::put_dump_byte` meets its contract: after j turns j digits are written, and the next begins j widths from the start.
+-- `dump_line::put_dump_byte` meets its contract: after j turns j digits are written, and the next begins j widths from the start.
 -- Assumes nothing.
 use mathlib.Core.Path.{_≡_, refl}
 use mathlib.Core.List.{List, [], _∷_}
@@ -12,9 +12,9 @@ use Rattle.output.specs.Writes.{Writes}
 use Rattle.output.proofs.Pieces.{pieces-none, pieces-next}
 use Rattle.output.proofs.Writes.{writes-nothing, writes-then}
 use Rattle.digits.proofs.Parts.{stride}
-use Rattle.format_dump.specs.Dump.{dumpDigit, dumpByte}
-use Rattle.format_dump.proofs.put_dump_byte.Statement.{statement}
-use Rattle.format_dump.proofs.put_dump_byte.Tie as tie
+use Rattle.dump_line.specs.Line.{dumpDigit, dumpByte}
+use Rattle.dump_line.proofs.put_dump_byte.Statement.{statement}
+use Rattle.dump_line.proofs.put_dump_byte.Tie as tie
 
 -- digit j of the byte from bit i on
 abbrev digit : List ℕ → ℕ → ℕ → ℕ → ℕ → List ℕ
