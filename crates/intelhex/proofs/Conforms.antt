@@ -20,8 +20,8 @@ use Rattle.hex_records.specs.Intel.{records}
 use Rattle.hex_records.specs.Decoded.{dataRecord, endRecord}
 use Rattle.hex_records.proofs.Decoded.{decodes}
 use Rattle.hex_records.proofs.Plan.{plan-counts}
+use Rattle.hex_length.proofs.High.{Low, low-each}
 use Rattle.intelhex.specs.Hex.{planOutcome, hexOutcome}
-use Rattle.intelhex.proofs.High.{Low, low-each}
 
 -- A text is no refusal, and is that of its outcome.
 abbrev isText : Outcome → Bool

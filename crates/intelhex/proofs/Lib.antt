@@ -1,5 +1,3 @@
-mod Lengths
-mod High
 mod Cover
 pub mod Conforms
 pub mod Rule

@@ -20,9 +20,9 @@ use Rattle.hex_records.specs.Plan.{Chunk, hexPlan, tooHigh}
 use Rattle.hex_records.specs.Text.{hexText}
 use Rattle.hex_records.proofs.Decoded.{Same as SameBytes, same-data, equal-text, hex-lengths}
 use Rattle.hex_records.proofs.Plan.{plan-counts}
+use Rattle.hex_length.proofs.High.{Low, low-each}
 use Rattle.intelhex.specs.Hex.{planOutcome, hexOutcome}
 use Rattle.intelhex.specs.TwoImages.{Agree, Same, SameAnswers, refused-alike, texts, both-refused, both-texts}
-use Rattle.intelhex.proofs.High.{Low, low-each}
 use Rattle.intelhex.proofs.Cover.{plan-covers}
 
 -- The rule over a plan, of records of at most 255 bytes as Intel allows: whatever A says in terms of the plan's bytes, the texts say.

@@ -1,8 +1,8 @@
 // `format_intelhex`: the blocks of the lent spans, and then their text.
-use crate::measure::hex_length;
-use crate::measure::too_high;
 use blocks::Blocks;
 use blocks::get_blocks;
+use hex_length::hex_length;
+use hex_length::too_high;
 use hex_records::write_hex;
 use outcome::Export;
 ghost use mathlib.Core.Path.{_≡_};

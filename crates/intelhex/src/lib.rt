@@ -2,7 +2,6 @@
 // text and its length, or a refusal: 1, 2, 3, 5 or 8.
 mod both;
 mod hex;
-mod measure;
 
 pub use both::Both;
 pub use both::format_both;

@@ -7,7 +7,7 @@ use Rattle.outcome.proofs.Outcome.{exports-text, exports-no-room}
 use Rattle.hex_records.specs.Plan.{hexPlan, blocksAt}
 use Rattle.hex_records.specs.Text.{hexText}
 use Rattle.intelhex.specs.Hex.{planOutcome}
-use Rattle.intelhex.proofs.High.{low-each}
+use Rattle.hex_length.proofs.High.{low-each}
 use borrow.Author.Needs.{needs}
 use Rattle.intelhex.proofs.hex.format_blocks.Statement.{statement}
 use Rattle.intelhex.proofs.hex.format_blocks.Tie as tie

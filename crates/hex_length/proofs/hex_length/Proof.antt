@@ -1,4 +1,4 @@
--- `intelhex::measure::hex_length` meets its contract: after k turns the records of k blocks are measured.
+-- `hex_length::hex_length` meets its contract: after k turns the records of k blocks are measured.
 -- Assumes nothing.
 use mathlib.Core.Path.{_≡_, ap, _∙_}
 use mathlib.Core.List.{List, flatMap}
@@ -13,10 +13,10 @@ use Rattle.output.proofs.Pieces.{pieces-none, pieces-next}
 use Rattle.hex_records.specs.Plan.{blockPlan, hexPlan, blocksAt}
 use Rattle.hex_records.specs.Text.{recordText, hexText}
 use Rattle.hex_records.proofs.Plan.{blockAt, plan-pieces}
-use Rattle.intelhex.proofs.Lengths.{block-length}
+use Rattle.hex_length.proofs.Lengths.{block-length}
 use borrow.Author.Needs.{needs}
-use Rattle.intelhex.proofs.measure.hex_length.Statement.{statement}
-use Rattle.intelhex.proofs.measure.hex_length.Tie as tie
+use Rattle.hex_length.proofs.hex_length.Statement.{statement}
+use Rattle.hex_length.proofs.hex_length.Tie as tie
 
 abbrev texts : List ℕ → ℕ → ℕ → List ℕ → List ℕ → ℕ → List ℕ
 texts bytes len unit offsets sizes k = flatMap (recordText bytes len) (blockPlan unit (blockAt offsets sizes k))

@@ -1,11 +1,11 @@
--- `intelhex::measure::block_length` meets its contract: the block's bytes and records counted.
+-- `hex_length::block_length` meets its contract: the block's bytes and records counted.
 -- Assumes nothing.
 use Prim.Native.Nat.{_≤_}
 use native.Mathlib.Omega.{arith}
 use Rattle.bitvec.proofs.Size.{ceil-most}
 use borrow.Author.Needs.{needs}
-use Rattle.intelhex.proofs.measure.block_length.Statement.{statement}
-use Rattle.intelhex.proofs.measure.block_length.Tie as tie
+use Rattle.hex_length.proofs.block_length.Statement.{statement}
+use Rattle.hex_length.proofs.block_length.Tie as tie
 
 parts-requires : tie.Need-parts-requires
 parts-requires c κs = search needs

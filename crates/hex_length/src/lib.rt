@@ -20,7 +20,7 @@ fn block_length(size: usize) -> usize
 }
 
 // The length of the text of blocks of these sizes, wherever they are and whatever the image holds.
-pub(crate) fn hex_length(sizes: &[u32]) -> usize
+pub fn hex_length(sizes: &[u32]) -> usize
     requires { ⌜ length (now sizes) ≤ 4096 ⌝ }
     ensures { λ r. ⌜ ((bytes : List ℕ) (len unit : ℕ) (offsets : List ℕ) → length offsets ≡ length (now (sizes .entry)) → length (hexText bytes len (hexPlan unit (blocksAt offsets (now (sizes .entry))))) ≡ r) ⌝ }
 {
@@ -44,7 +44,7 @@ fn block_high(offset: usize, size: usize, unit: usize) -> bool
 }
 
 // Whether the address of a record of the blocks is above 65,535, the cause of refusal 5.
-pub(crate) fn too_high(offsets: &[u32], sizes: &[u32], unit: usize) -> bool
+pub fn too_high(offsets: &[u32], sizes: &[u32], unit: usize) -> bool
     requires { ⌜ (0 < unit) × (length (now offsets) ≡ length (now sizes)) ⌝ }
     ensures { λ r. ⌜ r ≡ tooHigh (hexPlan unit (blocksAt (now (offsets .entry)) (now (sizes .entry)))) ⌝ }
 {

@@ -1,4 +1,4 @@
--- `intelhex::measure::block_high` meets its contract: the last record's address is the highest.
+-- `hex_length::block_high` meets its contract: the last record's address is the highest.
 -- Assumes nothing.
 use mathlib.Core.Path.{_≡_, sym, _∙_}
 use Prim.Native.Nat.{_+_, _-_, _*_, _/_, _≤_}
@@ -8,10 +8,10 @@ use Rattle.bitvec.specs.Size.{ceilDiv}
 use Rattle.bitvec.proofs.Size.{ceil-most}
 use Rattle.output.proofs.Order.{by-order}
 use Rattle.blocks.specs.Blocks.{Block}
-use Rattle.intelhex.proofs.High.{block-low, block-too-high, block-none}
+use Rattle.hex_length.proofs.High.{block-low, block-too-high, block-none}
 use borrow.Author.Needs.{needs}
-use Rattle.intelhex.proofs.measure.block_high.Statement.{statement}
-use Rattle.intelhex.proofs.measure.block_high.Tie as tie
+use Rattle.hex_length.proofs.block_high.Statement.{statement}
+use Rattle.hex_length.proofs.block_high.Tie as tie
 
 parts-requires : tie.Need-parts-requires
 parts-requires c κs = search needs

@@ -1,4 +1,4 @@
--- `intelhex::measure::too_high` meets its contract: no block before block k is too high.
+-- `hex_length::too_high` meets its contract: no block before block k is too high.
 -- Assumes nothing.
 use mathlib.Core.Path.{_≡_, sym, _∙_}
 use mathlib.Core.Bool.{false}
@@ -8,10 +8,10 @@ use lib.ListN.{length}
 use borrow.Author.Count.{below-none, below-more}
 use Rattle.hex_records.specs.Plan.{blockPlan, tooHigh}
 use Rattle.hex_records.proofs.Plan.{blockAt}
-use Rattle.intelhex.proofs.High.{blocks-low, blocks-too-high}
+use Rattle.hex_length.proofs.High.{blocks-low, blocks-too-high}
 use borrow.Author.Needs.{needs}
-use Rattle.intelhex.proofs.measure.too_high.Statement.{statement}
-use Rattle.intelhex.proofs.measure.too_high.Tie as tie
+use Rattle.hex_length.proofs.too_high.Statement.{statement}
+use Rattle.hex_length.proofs.too_high.Tie as tie
 
 abbrev Inv-loop : tie.InvT-loop
 Inv-loop offsets sizes unit k₀ k-end k =
