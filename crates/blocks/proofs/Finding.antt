@@ -11,8 +11,10 @@ use lib.Seq.{sets}
 use borrow.Author.Tests.{le-ltb}
 use Rattle.outcome.specs.Outcome.{Answer}
 use Rattle.blocks.specs.declared.Blocks.the-variants.{Found, SpanRange, NoRoom}
-use Rattle.blocks.specs.Blocks.{Block, Finding, found, refused, blocksOf, longList, faultAt, spansChecked, blocksFound, Finds}
-use Rattle.blocks.proofs.Running.{blocks-few, short-list}
+use Rattle.span_range.specs.Range.{longList, faultAt, spansChecked}
+use Rattle.blocks.specs.Blocks.{Block, Finding, found, refused, blocksOf, blocksFound, Finds}
+use Rattle.span_range.proofs.Good.{short-list}
+use Rattle.blocks.proofs.Running.{blocks-few}
 
 module _ (offsets sizes offsets₀ offsets₁ sizes₀ sizes₁ : List ℕ) where
   abbrev all : List Block

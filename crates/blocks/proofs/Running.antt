@@ -1,21 +1,19 @@
 -- Laws of blocks: how the pass goes on from a running block, how many blocks there are, and what a good span is.
 -- Assumes nothing.
-use mathlib.Core.Path.{_≡_, refl, sym, _∙_}
-use mathlib.Core.Bool.{Bool, true, false, cond, not, _||_, _&&_, false≢true}
+use mathlib.Core.Path.{_≡_, refl, _∙_}
+use mathlib.Core.Bool.{Bool, true, false, cond}
 use mathlib.Core.Logic.{_≢_}
 use mathlib.Core.List.{List, [], _∷_, _++_}
-use Prim.Native.Nat.{ℕ, _+_, _≤_, _<_}
+use Prim.Native.Nat.{ℕ, _+_, _≤_}
 use native.Mathlib.Nat.{zero-add}
 use native.Mathlib.Omega.{arith}
-use lib.Dec.{eqb, ltb}
+use lib.Dec.{eqb}
 use lib.ListN.{length, getD, length-append}
-use borrow.Author.Tests.{eq-eqb, ne-eqb, eqb-true, ltb-false}
-use Rattle.bitvec.specs.Size.{maxBits}
+use borrow.Author.Tests.{eq-eqb, ne-eqb, eqb-true}
 use Rattle.output.proofs.Order.{by-order}
 use Rattle.ordering.specs.Order.{absent, inOrder}
-use Rattle.ordering.proofs.Lists.{first-none, first-most}
 use Rattle.ordering.proofs.Keys.{inOrder-length}
-use Rattle.blocks.specs.Blocks.{Block, present, closed, running, blocksIn, blocksOf, longList, badSpan, faultAt}
+use Rattle.blocks.specs.Blocks.{Block, present, closed, running, blocksIn, blocksOf}
 
 -- A span with an absent offset is left out, any other stands before the rest.
 pub present-absent : (offsets sizes : List ℕ) (p : ℕ) (rest : List ℕ) → getD offsets p 0 ≡ absent → present offsets sizes (p ∷ rest) ≡ present offsets sizes rest
@@ -122,26 +120,3 @@ pub blocks-few : (offsets sizes : List ℕ) → length (blocksOf offsets sizes) 
 unfolding blocksOf
 blocks-few offsets sizes =
     omega (arith, in-few (present offsets sizes (inOrder offsets)), present-few offsets sizes (inOrder offsets), inOrder-length offsets)
-
--- A good span that has an offset ends within the largest image.
-pub good-span : (offsets sizes : List ℕ) → faultAt offsets sizes ≡ length offsets → (p : ℕ) → p < length offsets → getD offsets p 0 ≢ absent
-    → getD offsets p 0 + getD sizes p 0 ≤ maxBits
-unfolding faultAt badSpan
-good-span offsets sizes e p h n =
-    ltb-false maxBits (getD offsets p 0 + getD sizes p 0)
-    (sym (simp (ne-eqb _ _ n)) ∙ first-none (λ p. not (eqb (getD offsets p 0) absent) && ltb maxBits (getD offsets p 0 + getD sizes p 0)) (length offsets) e p h)
-
--- A list that is not long has at most 4,096 spans, and slices of one length.
-pub short-list : (offsets sizes : List ℕ) → longList offsets sizes ≡ false → (length offsets ≤ 4096) × (length offsets ≡ length sizes)
-unfolding longList
-short-list offsets sizes e = go (ltb 4096 (length offsets)) (eqb (length offsets) (length sizes)) refl refl e
-  where
-    go : (a b : Bool) → ltb 4096 (length offsets) ≡ a → eqb (length offsets) (length sizes) ≡ b → (a || not b) ≡ false
-        → (length offsets ≤ 4096) × (length offsets ≡ length sizes)
-    go true b p q e = absurd (false≢true (sym e))
-    go false true p q e = (ltb-false _ _ p, eqb-true _ _ q)
-    go false false p q e = absurd (false≢true (sym e))
-
-pub fault-most : (offsets sizes : List ℕ) → faultAt offsets sizes ≤ length offsets
-unfolding faultAt
-fault-most offsets sizes = first-most _ (length offsets)

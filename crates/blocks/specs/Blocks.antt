@@ -1,15 +1,15 @@
--- The blocks of a span list (document 01, module 7; the Rust's `get_blocks`), and refusal 3.
+-- The blocks of a span list (document 01, module 7; the Rust's `get_blocks`).
 use mathlib.Core.Path.{_≡_}
-use mathlib.Core.Bool.{Bool, cond, not, _||_, _&&_}
+use mathlib.Core.Bool.{cond, _||_}
 use mathlib.Core.List.{List, [], _∷_, map}
 use Prim.Native.Nat.{ℕ, _+_}
 use lib.Dec.{eqb, ltb}
 use lib.ListN.{length, getD}
 use lib.Seq.{sets}
-use Rattle.bitvec.specs.Size.{maxBits}
 use Rattle.outcome.specs.Outcome.{Answer}
 use Rattle.ordering.specs.Lists.{first}
 use Rattle.ordering.specs.Order.{absent, inOrder}
+use Rattle.span_range.specs.Range.{spansChecked}
 use Rattle.blocks.specs.declared.Blocks.{Blocks}
 use Rattle.blocks.specs.declared.Blocks.the-variants.{Found, SpanRange, NoRoom}
 
@@ -46,23 +46,6 @@ blocksIn (s ∷ rest) = running (s .offset) (s .size) rest
 -- The blocks of the lent spans.
 unfoldable pub blocksOf : List ℕ → List ℕ → List Block
 blocksOf offsets sizes = blocksIn (present offsets sizes (inOrder offsets))
-
--- The causes of refusal 3: over 4,096 spans, or slices of unequal length; and, after these, a present offset plus size above 16,777,216.
-unfoldable pub longList : List ℕ → List ℕ → Bool
-longList offsets sizes = ltb 4096 (length offsets) || not (eqb (length offsets) (length sizes))
-
-unfoldable pub badSpan : ℕ → ℕ → Bool
-badSpan offset size = not (eqb offset absent) && ltb maxBits (offset + size)
-
--- The place of the first bad span as lent, or their number where there is none.
-unfoldable pub faultAt : List ℕ → List ℕ → ℕ
-faultAt offsets sizes = first (λ p. badSpan (getD offsets p 0) (getD sizes p 0)) (length offsets)
-
--- Refusal 3 with its place, or what follows where the spans are good.
-abbrev pub spansChecked : {A : Type 0} → (ℕ → ℕ → A) → List ℕ → List ℕ → A → A
-spansChecked refuse offsets sizes good =
-    cond (longList offsets sizes) (refuse 3 4096)
-    (cond (ltb (faultAt offsets sizes) (length offsets)) (refuse 3 (faultAt offsets sizes)) good)
 
 -- What `get_blocks` gives: the blocks, or a refusal, its number and the value returned with it.
 pub data Finding : Type 0 where

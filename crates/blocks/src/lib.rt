@@ -1,9 +1,10 @@
 // The blocks of a span list (document 01, module 7): the spans in order make blocks, which are closed
 // one after the other. Spans are lent as two slices of numbers, the offsets, with 4294967295 for an
 // absent one, and the sizes.
-use bitvec::MAX_BITS;
 use ordering::ABSENT;
 use ordering::order;
+use span_range::fault_at;
+use span_range::long_list;
 ghost use mathlib.Core.Path.{_≡_};
 ghost use mathlib.Core.Logic.{_≢_};
 ghost use mathlib.Core.List.{[], map};
@@ -11,7 +12,8 @@ ghost use Prim.Native.Nat.{_+_, _≤_, _<_};
 ghost use lib.ListN.{length};
 ghost use lib.Seq.{sets};
 ghost use Rattle.ordering.specs.Order.{inOrder};
-ghost use Rattle.blocks.specs.Blocks.{closed, blocksOf, longList, badSpan, faultAt, blocksFound, Finds};
+ghost use Rattle.span_range.specs.Range.{faultAt};
+ghost use Rattle.blocks.specs.Blocks.{closed, blocksOf, blocksFound, Finds};
 
 // What `get_blocks` answers: how many blocks there are, or refusal 3 with its place, or refusal 8
 // with how many blocks there are.
@@ -19,42 +21,6 @@ pub enum Blocks {
     Found(usize),
     SpanRange(usize),
     NoRoom(usize),
-}
-
-// Whether the list is long, the first cause of refusal 3.
-fn long_list(offsets: &[u32], sizes: &[u32]) -> bool
-    ensures { λ r. ⌜ r ≡ longList (now (offsets .entry)) (now (sizes .entry)) ⌝ }
-{
-    if 4096 < offsets.len() {
-        return true;
-    }
-    if offsets.len() == sizes.len() {
-        return false;
-    }
-    true
-}
-
-// Whether a span is bad, the other cause.
-fn bad_span(offset: u32, size: u32) -> bool
-    ensures { λ r. ⌜ r ≡ badSpan offset size ⌝ }
-{
-    if offset == ABSENT {
-        return false;
-    }
-    MAX_BITS < offset as usize + size as usize
-}
-
-// The place of the first bad span, or their number where there is none.
-fn fault_at(offsets: &[u32], sizes: &[u32]) -> usize
-    requires { ⌜ length (now offsets) ≡ length (now sizes) ⌝ }
-    ensures { λ r. ⌜ r ≡ faultAt (now (offsets .entry)) (now (sizes .entry)) ⌝ }
-{
-    for p in 0..offsets.len() {
-        if bad_span(offsets[p], sizes[p]) {
-            return p;
-        }
-    }
-    offsets.len()
 }
 
 // Closes a block: it is stored behind the others, unless its size is 0.

@@ -16,7 +16,7 @@ use Rattle.ordering.specs.Lists.{table, Each}
 use Rattle.ordering.proofs.Lists.{table-next, each-table}
 use Rattle.blocks.specs.Blocks.{Block}
 use Rattle.hex_records.specs.Plan.{Chunk, blockBytes, chunkAt, blockPlan, hexPlan, tooHigh, blocksAt}
-use Rattle.hex_records.proofs.Lists.{flat-append, flat-one}
+use Rattle.ordering.proofs.Flat.{flat-append, flat-one}
 use Rattle.hex_records.proofs.Plan.{blockAt, flat-each}
 
 -- The address fits.

@@ -1,4 +1,4 @@
-pub mod Lists
+mod Sums
 pub mod Text
 pub mod Plan
 pub mod Decoded

@@ -12,7 +12,7 @@ use Rattle.ordering.proofs.Lists.{each-parts, each-append, each-table, table-ea
 use Rattle.blocks.specs.Blocks.{Block}
 use Rattle.hex_records.specs.Plan.{Chunk, blockBytes, chunkAt, blockPlan, hexPlan, blocksAt}
 use Rattle.hex_records.specs.Text.{recordText}
-use Rattle.hex_records.proofs.Lists.{flat-table, flat-flat}
+use Rattle.ordering.proofs.Flat.{flat-table, flat-flat}
 
 -- What holds of each record of a plan holds of each record of each block.
 pub each-flat : {A B : Type 0} (P : B → Type 0) (g : A → List B) (l : List A) → Each P (flatMap g l) → Each (λ x. Each P (g x)) l

@@ -14,7 +14,8 @@ use Rattle.ordering.specs.Lists.{table, Each}
 use Rattle.ordering.proofs.Lists.{table-next, table-length, each-table}
 use Rattle.hex_records.specs.Plan.{Chunk}
 use Rattle.hex_records.specs.Text.{bytesFrom, total, checksum, recordBytes, hexBytes, recordText}
-use Rattle.hex_records.proofs.Lists.{flat-append, flat-one, flat-none, total-append}
+use Rattle.ordering.proofs.Flat.{flat-append, flat-one, flat-none}
+use Rattle.hex_records.proofs.Sums.{total-append}
 
 pub bytes-next : (bytes : List ℕ) (len from k : ℕ) → bytesFrom bytes len from (k + 1) ≡ bytesFrom bytes len from k ++ (bitsAt bytes len (from + 8 * k) 8 ∷ [])
 unfolding bytesFrom

@@ -13,7 +13,8 @@ use Rattle.output.proofs.Order.{by-order}
 use Rattle.outcome.specs.Outcome.{Outcome, text, refused, answer, outside, inRoom}
 use Rattle.outcome.proofs.Outcome.{room-enough, room-short}
 use Rattle.ordering.proofs.Lists.{each-both}
-use Rattle.blocks.specs.Blocks.{blocksOf, longList, faultAt}
+use Rattle.span_range.specs.Range.{longList, faultAt}
+use Rattle.blocks.specs.Blocks.{blocksOf}
 use Rattle.hex_records.specs.Plan.{Chunk, hexPlan, tooHigh}
 use Rattle.hex_records.specs.Text.{hexText}
 use Rattle.hex_records.specs.Intel.{records}

@@ -15,7 +15,8 @@ use Rattle.outcome.specs.Outcome.{Outcome, text, refused, answer, answerOf, lef
 use Rattle.outcome.proofs.Outcome.{room-enough, room-short}
 use Rattle.ordering.specs.Lists.{Each}
 use Rattle.ordering.proofs.Lists.{each-both, each-map, sets-front}
-use Rattle.blocks.specs.Blocks.{blocksOf, longList, faultAt}
+use Rattle.span_range.specs.Range.{longList, faultAt}
+use Rattle.blocks.specs.Blocks.{blocksOf}
 use Rattle.hex_records.specs.Plan.{Chunk, hexPlan, tooHigh}
 use Rattle.hex_records.specs.Text.{hexText}
 use Rattle.hex_records.proofs.Decoded.{Same as SameBytes, same-data, equal-text, hex-lengths}

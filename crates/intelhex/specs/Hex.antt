@@ -4,7 +4,8 @@ use mathlib.Core.List.{List}
 use Prim.Native.Nat.{ℕ}
 use Rattle.bitvec.specs.Size.{badSize}
 use Rattle.outcome.specs.Outcome.{Outcome, refused, outside, inRoom}
-use Rattle.blocks.specs.Blocks.{blocksOf, spansChecked}
+use Rattle.span_range.specs.Range.{spansChecked}
+use Rattle.blocks.specs.Blocks.{blocksOf}
 use Rattle.hex_records.specs.Plan.{Chunk, hexPlan, tooHigh}
 use Rattle.hex_records.specs.Text.{hexText}
 

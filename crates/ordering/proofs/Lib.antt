@@ -1,4 +1,5 @@
 pub mod Lists
+pub mod Flat
 pub mod Ordered
 mod Merged
 pub mod Keys

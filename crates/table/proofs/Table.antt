@@ -13,7 +13,8 @@ use Rattle.digits.specs.Parts.{partBits}
 use Rattle.digits.specs.Base.{baseBits}
 use Rattle.ordering.specs.Lists.{table as numbered, first}
 use Rattle.ordering.specs.Order.{put-in, ordered, rank, inOrder}
-use Rattle.blocks.specs.Blocks.{present, closed, running, blocksIn, blocksOf, longList, badSpan, faultAt}
+use Rattle.span_range.specs.Range.{longList, badSpan, faultAt}
+use Rattle.blocks.specs.Blocks.{present, closed, running, blocksIn, blocksOf}
 use Rattle.hex_records.specs.Plan.{chunkAt, blockPlan, hexPlan, tooHigh}
 use Rattle.hex_records.specs.Text.{bytesFrom, total, checksum, recordBytes, hexBytes, recordText, hexText}
 use Rattle.intelhex.specs.Hex.{planOutcome, hexOutcome}

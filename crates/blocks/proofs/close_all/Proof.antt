@@ -12,7 +12,8 @@ use Rattle.bitvec.specs.Size.{maxBits}
 use Rattle.blocks.specs.Blocks.{blocksOf}
 use Rattle.ordering.proofs.Lists.{each-get}
 use Rattle.ordering.proofs.Keys.{inOrder-below}
-use Rattle.blocks.proofs.Running.{blocks-few, good-span}
+use Rattle.span_range.proofs.Good.{good-span}
+use Rattle.blocks.proofs.Running.{blocks-few}
 use Rattle.blocks.proofs.Closing.{Closing, closing-first, closing-absent, closing-joins, closing-closes, closing-room, closing-last-room, closing-count, closing-offsets, closing-sizes}
 use borrow.Author.Needs.{needs}
 use Rattle.blocks.proofs.close_all.Statement.{statement}

@@ -7,10 +7,12 @@ use native.Mathlib.Omega.{arith}
 use lib.ListN.{length, take}
 use lib.Seq.{sets, length-take-le}
 use borrow.Author.Tests.{lt-ltb, le-ltb}
-use Rattle.blocks.specs.Blocks.{blocksOf, faultAt, blocksFound, blocksAnswer}
+use Rattle.span_range.specs.Range.{faultAt}
+use Rattle.blocks.specs.Blocks.{blocksOf, blocksFound, blocksAnswer}
 use Rattle.blocks.specs.declared.Blocks.the-variants.{Found}
 use Rattle.ordering.proofs.Lists.{sets-front, map-length}
-use Rattle.blocks.proofs.Running.{blocks-few, short-list, fault-most}
+use Rattle.span_range.proofs.Good.{short-list, fault-most}
+use Rattle.blocks.proofs.Running.{blocks-few}
 use borrow.Author.Needs.{needs}
 use Rattle.blocks.proofs.get_blocks.Statement.{statement}
 use Rattle.blocks.proofs.get_blocks.Tie as tie

@@ -10,7 +10,7 @@ use Rattle.numbers.specs.Digits.{byteText}
 use Rattle.output.specs.Writes.{Writes}
 use Rattle.output.proofs.Writes.{writes-nothing, writes-then}
 use Rattle.hex_records.specs.Text.{bytesFrom, total, hexBytes}
-use Rattle.hex_records.proofs.Lists.{total-append}
+use Rattle.hex_records.proofs.Sums.{total-append}
 use Rattle.hex_records.proofs.Text.{bytes-none, bytes-next, hex-none, hex-append, hex-one}
 use borrow.Author.Needs.{needs}
 use Rattle.hex_records.proofs.put_data.Statement.{statement}

@@ -10,7 +10,7 @@ use Rattle.output.specs.Writes.{Writes}
 use Rattle.output.proofs.Writes.{writes-then, writes-length}
 use Rattle.hex_records.specs.Plan.{Chunk}
 use Rattle.hex_records.specs.Text.{bytesFrom, checksum, recordBytes, hexBytes}
-use Rattle.hex_records.proofs.Lists.{total-append}
+use Rattle.hex_records.proofs.Sums.{total-append}
 use Rattle.hex_records.proofs.Text.{bytes-length, hex-length, checksum-is, record-parts}
 use borrow.Author.Needs.{needs}
 use Rattle.hex_records.proofs.put_record.Statement.{statement}

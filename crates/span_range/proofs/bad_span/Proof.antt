@@ -1,10 +1,10 @@
--- `blocks::bad_span` meets its contract: an absent offset is never bad.
+-- `span_range::bad_span` meets its contract: an absent offset is never bad.
 -- Assumes nothing.
 use borrow.Author.Tests.{eq-eqb, ne-eqb}
-use Rattle.blocks.specs.Blocks.{badSpan}
+use Rattle.span_range.specs.Range.{badSpan}
 use borrow.Author.Needs.{needs}
-use Rattle.blocks.proofs.bad_span.Statement.{statement}
-use Rattle.blocks.proofs.bad_span.Tie as tie
+use Rattle.span_range.proofs.bad_span.Statement.{statement}
+use Rattle.span_range.proofs.bad_span.Tie as tie
 
 returns : tie.Need-returns
 unfolding badSpan

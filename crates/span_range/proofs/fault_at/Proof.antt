@@ -1,4 +1,4 @@
--- `blocks::fault_at` meets its contract: no span before place p is bad.
+-- `span_range::fault_at` meets its contract: no span before place p is bad.
 -- Assumes nothing.
 use mathlib.Core.Path.{_≡_, sym, _∙_}
 use mathlib.Core.Bool.{false}
@@ -6,11 +6,11 @@ use Prim.Native.Nat.{ℕ, _-_, _≤_, _<_}
 use native.Mathlib.Omega.{arith}
 use lib.ListN.{length, getD}
 use borrow.Author.Count.{below-none, below-more}
-use Rattle.blocks.specs.Blocks.{badSpan, faultAt}
+use Rattle.span_range.specs.Range.{badSpan, faultAt}
 use Rattle.ordering.proofs.Lists.{first-at, first-all}
 use borrow.Author.Needs.{needs}
-use Rattle.blocks.proofs.fault_at.Statement.{statement}
-use Rattle.blocks.proofs.fault_at.Tie as tie
+use Rattle.span_range.proofs.fault_at.Statement.{statement}
+use Rattle.span_range.proofs.fault_at.Tie as tie
 
 abbrev Inv-loop : tie.InvT-loop
 Inv-loop offsets sizes p₀ p-end p =

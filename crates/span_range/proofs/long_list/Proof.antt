@@ -1,9 +1,9 @@
--- `blocks::long_list` meets its contract: each cause is tested.
+-- `span_range::long_list` meets its contract: each cause is tested.
 -- Assumes nothing.
 use borrow.Author.Tests.{lt-ltb, le-ltb, eq-eqb, ne-eqb}
-use Rattle.blocks.specs.Blocks.{longList}
-use Rattle.blocks.proofs.long_list.Statement.{statement}
-use Rattle.blocks.proofs.long_list.Tie as tie
+use Rattle.span_range.specs.Range.{longList}
+use Rattle.span_range.proofs.long_list.Statement.{statement}
+use Rattle.span_range.proofs.long_list.Tie as tie
 
 returns : tie.Need-returns
 unfolding longList

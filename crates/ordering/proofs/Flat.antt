@@ -1,12 +1,12 @@
--- Laws of lists made of lists, and of sums.
+-- Laws of lists made of lists: a text for each thing in a list.
 -- Assumes nothing.
 use mathlib.Core.Path.{_≡_, refl, sym, ap, _∙_}
 use mathlib.Core.List.{List, [], _∷_, _++_, flatMap, append-nil, append-assoc}
-use Prim.Native.Nat.{ℕ, zero, suc, _+_}
-use native.Mathlib.Omega.{arith}
+use Prim.Native.Nat.{ℕ, zero, suc}
+use lib.ListN.{length, getD}
 use Rattle.output.specs.Pieces.{pieces}
 use Rattle.ordering.specs.Lists.{table}
-use Rattle.hex_records.specs.Text.{total}
+use Rattle.ordering.proofs.Lists.{table-list}
 
 pub flat-append : {A B : Type 0} (f : A → List B) (a b : List A) → flatMap f (a ++ b) ≡ flatMap f a ++ flatMap f b
 unfolding flatMap
@@ -37,7 +37,6 @@ unfolding flatMap
 flat-flat f g [] = refl
 flat-flat f g (x ∷ l) = flat-append f (g x) (flatMap g l) ∙ ap (λ (t : List ℕ). flatMap f (g x) ++ t) (flat-flat f g l)
 
-pub total-append : (a b : List ℕ) → total (a ++ b) ≡ total a + total b
-unfolding total
-total-append [] b = omega arith
-total-append (x ∷ a) b = omega (arith, total-append a b)
+-- A text for each thing in a list, by its place.
+pub flat-places : {A : Type 0} (f : A → List ℕ) (l : List A) (d : A) → flatMap f l ≡ pieces (λ k. f (getD l k d)) (length l)
+flat-places f l d = ap (flatMap f) (sym (table-list l d)) ∙ flat-table f (λ k. getD l k d) (length l)
