@@ -7,24 +7,28 @@
  *
  *   1  bits is above 16777216 or above 8 times image_len               value 0
  *   2  an option is outside its range                                  value 0
- *   3  more than 4096 spans, or offsets_len is not sizes_len           value 4096
+ *   3  more than 4096 spans, or arrays of spans that differ in length  value 4096
  *      else: a present offset plus its size is above 16777216          value: the first one's place
  *   4  bits is 0 (format_c_array and format_mif alone)                 value 0
  *   5  a record's address is above 65535 (format_intelhex alone)       value 0
+ *   6  a text is above 1048576 bytes or not ASCII (format_annotated)   value 0
+ *   7  a span that is shown has no place in its text, or no offset
+ *      but a size (format_annotated)                                   value: the first one's place
  *   8  the text is longer than the output buffer                       value: the length needed
  *
  * To learn the length of a text before there is a buffer for it, call with an out_len of 0: where
- * none of 1 to 5 applies, the length is stored, with 8, or with 0 where the text is empty.
+ * none of 1 to 7 applies, the length is stored, with 8, or with 0 where the text is empty.
  *
  * A string is bytes and their number, at most 256, and is copied as it is; it need not end with a
  * zero byte. A longer one is refusal 2.
  *
- * Spans are two arrays of one length, at most 4096: span k is sizes[k] bits from bit offsets[k] on,
+ * Spans are arrays of one length, at most 4096: span k is sizes[k] bits from bit offsets[k] on,
  * and places are counted from 0. An offset of 4294967295 is absent. A span may lie past the image's
  * end.
  *
  * The refusals are checked in this order. No pointer may be null, also where its length is 0, and
- * `out`, `value` and `padded` may overlap neither each other nor the image, a string or the spans.
+ * `out`, `value` and `padded` may overlap neither each other nor the image, a string, a text or the
+ * spans.
  */
 #ifndef RICESHOAL_H
 #define RICESHOAL_H
@@ -107,6 +111,29 @@ uint32_t riceshoal_format_intelhex(const uint8_t *image, size_t image_len, size_
                                    const uint32_t *offsets, size_t offsets_len,
                                    const uint32_t *sizes, size_t sizes_len, size_t address_unit,
                                    uint8_t *out, size_t out_len, uint64_t *value);
+
+/* An annotated listing: for each span its offset in bytes and bits, its address, its bits as digits
+ * of base 2, 4, 8, 16 or 32 in groups of digits_per_group, 1 to 64, and the bytes starts[k] to
+ * ends[k] - 1 of its text, the firmware's where files[k] is 0 and the protocol's where it is 1.
+ * Offsets and addresses are in addr_base, 2 to 36. A digit with a bit past the image's end is a
+ * point. Spans are taken by offset, absent ones first, equal ones as lent. display_labels is 0 or 1;
+ * with 0 spans of size 0 are hidden, but those with an offset still count for the columns' widths.
+ * The texts are ASCII of at most 1048576 bytes each. A start of 18446744073709551615 is no location.
+ * Refusals 1, 2, 3, 6, 7 and 8: with 7, *value is the place of the first span that is shown and has
+ * a file above 1, no location, a start after its end, an end past its text, or an absent offset and
+ * a size that is not 0. */
+uint32_t riceshoal_format_annotated(const uint8_t *image, size_t image_len, size_t bits,
+                                    const uint32_t *offsets, size_t offsets_len,
+                                    const uint32_t *sizes, size_t sizes_len,
+                                    const uint64_t *addrs, size_t addrs_len,
+                                    const uint8_t *files, size_t files_len,
+                                    const uint64_t *starts, size_t starts_len,
+                                    const uint64_t *ends, size_t ends_len,
+                                    const uint8_t *firmware, size_t firmware_len,
+                                    const uint8_t *protocol, size_t protocol_len,
+                                    size_t base, size_t addr_base, size_t digits_per_group,
+                                    uint8_t display_labels,
+                                    uint8_t *out, size_t out_len, uint64_t *value);
 
 #ifdef __cplusplus
 }

@@ -17,7 +17,14 @@ static const uint8_t digits[2] = {0xab, 0xcf};
 /* One span for HEX. */
 static const uint32_t offsets[1] = {0};
 static const uint32_t sizes[1] = {12};
-static uint8_t out[128];
+/* Two spans for the listing: one whose last digit is past the image, and a label without offset. */
+static const uint32_t places[2] = {4, 4294967295};
+static const uint32_t lengths[2] = {12, 0};
+static const uint64_t addrs[2] = {18446744073709551615u, 7};
+static const uint8_t files[2] = {1, 0};
+static const uint64_t starts[2] = {1, 0};
+static const uint64_t ends[2] = {4, 3};
+static uint8_t out[192];
 static uint64_t value;
 static uint8_t padded;
 static int wrong;
@@ -65,5 +72,12 @@ int main(void)
     expect("riceshoal_format_intelhex",
            riceshoal_format_intelhex(digits, 2, 12, offsets, 1, sizes, 1, 8, OUT),
            ":02000000ABC093\n:00000001FF");
+    expect("riceshoal_format_annotated",
+           riceshoal_format_annotated(bytes, 2, 12, places, 2, lengths, 2, addrs, 2, files, 2,
+                                      starts, 2, ends, 2, STRING("a:\n"), STRING("\tnop\n"), 16,
+                                      10, 2, 1, OUT),
+           " outp |       addr (base 10) | data (base 16)\n\n"
+           " --:- |                    7 |     ; a:\n\n"
+           "  0:4 | 18446744073709551615 | 20 . ; nop\n");
     return wrong;
 }

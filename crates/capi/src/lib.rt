@@ -14,9 +14,12 @@ ghost use Rattle.format_list.specs.List.{listOutcome};
 ghost use Rattle.format_mif.specs.Mif.{mifOutcome};
 ghost use Rattle.format_logisim.specs.Logisim.{logisimOutcome};
 ghost use Rattle.format_dump.specs.Dump.{dumpOutcome};
+ghost use Rattle.listing.specs.Listing.{spansOf};
+ghost use Rattle.annotated.specs.Annotated.{annotatedOutcome};
 ghost use Rattle.capi.specs.Returns.{Returns, flag};
 use format_dump::DumpOptions;
 use format_list::FormatListOptions;
+use listing::FormatAnnotatedOptions;
 use outcome::Export;
 
 // Stores the value of an answer and returns its number.
@@ -216,4 +219,48 @@ pub extern "C" fn riceshoal_format_intelhex(
         intelhex::format_intelhex(image, bits, offsets, sizes, address_unit, out),
         value,
     )
+}
+
+#[no_mangle]
+pub extern "C" fn riceshoal_format_annotated<'a>(
+    image: &[u8],
+    bits: usize,
+    offsets: &[u32],
+    sizes: &[u32],
+    addrs: &[u64],
+    files: &[u8],
+    starts: &[u64],
+    ends: &[u64],
+    firmware: &'a [u8],
+    protocol: &'a [u8],
+    base: usize,
+    addr_base: usize,
+    digits_per_group: usize,
+    display_labels: u8,
+    out: &mut [u8],
+    value: &mut u64,
+) -> u32
+    ensures { λ r. ⌜ Returns (annotatedOutcome (now (image .entry)) bits (record { base = base; «addr_base» = «addr_base»; «digits_per_group» = «digits_per_group»; «display_labels» = «display_labels» }) (spansOf (now (offsets .entry)) (now (sizes .entry)) (now (addrs .entry)) (now (files .entry)) (now (starts .entry)) (now (ends .entry))) (now (firmware .entry)) (now (protocol .entry)) (length (now (out .entry)))) r (now (value .exit)) (now (out .entry)) (now (out .exit)) ⌝ }
+{
+    let options = FormatAnnotatedOptions {
+        base,
+        addr_base,
+        digits_per_group,
+        display_labels,
+    };
+    let export = annotated::format_annotated(
+        image,
+        bits,
+        offsets,
+        sizes,
+        addrs,
+        files,
+        starts,
+        ends,
+        firmware,
+        protocol,
+        options,
+        out,
+    );
+    give(export, value)
 }

@@ -1,5 +1,7 @@
 //! The functions of include/riceshoal.h, and a safe function around each.
 
+use crate::listing::Columns;
+
 mod raw {
     extern "C" {
         pub fn riceshoal_format_binary(
@@ -114,6 +116,34 @@ mod raw {
             sizes: *const u32,
             sizes_len: usize,
             address_unit: usize,
+            out: *mut u8,
+            out_len: usize,
+            value: *mut u64,
+        ) -> u32;
+        pub fn riceshoal_format_annotated(
+            image: *const u8,
+            image_len: usize,
+            bits: usize,
+            offsets: *const u32,
+            offsets_len: usize,
+            sizes: *const u32,
+            sizes_len: usize,
+            addrs: *const u64,
+            addrs_len: usize,
+            files: *const u8,
+            files_len: usize,
+            starts: *const u64,
+            starts_len: usize,
+            ends: *const u64,
+            ends_len: usize,
+            firmware: *const u8,
+            firmware_len: usize,
+            protocol: *const u8,
+            protocol_len: usize,
+            base: usize,
+            addr_base: usize,
+            digits_per_group: usize,
+            display_labels: u8,
             out: *mut u8,
             out_len: usize,
             value: *mut u64,
@@ -240,6 +270,27 @@ pub fn format_intelhex(
 ) -> Answer {
     let ((o, n), (s, m)) = (parts(offsets), parts(sizes));
     call!(riceshoal_format_intelhex(image, bits, o, n, s, m, address_unit; out))
+}
+
+/// The texts are the firmware's and the protocol's; the numbers are the base, the address base and
+/// the digits per group.
+pub fn format_annotated(
+    image: &[u8],
+    bits: usize,
+    columns: &Columns,
+    texts: &[Vec<u8>; 2],
+    [base, addr_base, digits]: [usize; 3],
+    labels: u8,
+    out: &mut [u8],
+) -> Answer {
+    let ((o, n), (s, n2)) = (parts(&columns.spans.offsets), parts(&columns.spans.sizes));
+    let ((a, n3), (f, n4)) = (parts(&columns.addrs), parts(&columns.files));
+    let ((b, n5), (e, n6)) = (parts(&columns.starts), parts(&columns.ends));
+    let [(t, n7), (t2, n8)] = texts.each_ref().map(|text| parts(text));
+    call!(riceshoal_format_annotated(
+        image, bits, o, n, s, n2, a, n3, f, n4, b, n5, e, n6, t, n7, t2, n8, base, addr_base,
+        digits, labels; out
+    ))
 }
 
 /// A string or a list as C has it.

@@ -69,7 +69,7 @@ pub struct Family {
     pub sparse: Exporters,
     /// For images at the limit.
     pub large: Exporters,
-    /// With options outside their range, or with spans that are refused.
+    /// With options outside their range, or with spans or texts that are refused.
     pub unfit: Exporters,
 }
 

@@ -107,7 +107,7 @@ fn unfit() -> Exporters {
 }
 
 /// Spans that end too late. Some do not where only 32 bits of the sum are kept.
-fn unfit_rows() -> Vec<(u32, u32)> {
+pub fn unfit_rows() -> Vec<(u32, u32)> {
     let end = END as u32;
     let mut rows = vec![(0, end + 1), (1, end), (8, end - 7), (end - 7, 8), (end, 1), (end + 1, 0)];
     rows.extend([(0, u32::MAX), (1, u32::MAX), (8, u32::MAX), (u32::MAX - 1, u32::MAX)]);
@@ -215,7 +215,7 @@ pub fn lists(checker: &mut Checker, _: &[Family]) {
 }
 
 /// The length of an image for spans that end at `extent`.
-fn length(rng: &mut Rng, extent: usize) -> usize {
+pub fn length(rng: &mut Rng, extent: usize) -> usize {
     match rng.below(6) {
         0 => rng.below(extent + 1),
         1 => extent,
@@ -255,7 +255,7 @@ pub fn long(checker: &mut Checker, _: &[Family]) {
 }
 
 /// Lists of `count` spans: sorted, reversed, shuffled, with equal offsets, and without sizes.
-fn orders(rng: &mut Rng, count: usize) -> Vec<Vec<(u32, u32)>> {
+pub fn orders(rng: &mut Rng, count: usize) -> Vec<Vec<(u32, u32)>> {
     let rows = |row: fn(u32) -> (u32, u32)| (0..count as u32).map(row).collect::<Vec<_>>();
     let mut all = Vec::new();
     // Touching, with gaps, and two at each offset of which one is empty.

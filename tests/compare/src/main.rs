@@ -4,6 +4,8 @@
 #![cfg_attr(not(feature = "library"), allow(dead_code))]
 
 #[cfg(feature = "library")]
+mod annotated;
+#[cfg(feature = "library")]
 mod capi;
 #[cfg(feature = "library")]
 mod check;
@@ -14,6 +16,7 @@ mod hex;
 mod input;
 #[cfg(feature = "library")]
 mod list;
+mod listing;
 #[cfg(feature = "library")]
 mod memory;
 mod options;
@@ -63,9 +66,10 @@ fn compare() -> ExitCode {
         memory::family(),
         dump::family(),
         hex::family(),
+        annotated::family(),
     ];
     let mut checker = check::Checker::new(seed);
-    let runs: [(&str, fn(&mut check::Checker, &[check::Family])); 10] = [
+    let runs: [(&str, fn(&mut check::Checker, &[check::Family])); 19] = [
         ("every image of 0 to 12 bits", runs::small),
         ("lengths of 0 to 600 bits", runs::lengths),
         ("lengths around bytes and lines", runs::boundaries),
@@ -76,6 +80,15 @@ fn compare() -> ExitCode {
         ("random lists of spans", hex::lists),
         ("lists of up to 4,096 spans", hex::long),
         ("addresses around 65,535", hex::edges),
+        ("every listing of 0 to 3 spans on a grid", annotated::grid),
+        ("listings with all options", annotated::options),
+        ("random listings", annotated::lists),
+        ("listings across the image's end", annotated::ends),
+        ("listings with wide columns", annotated::widths),
+        ("listings of up to 4,096 spans", annotated::long),
+        ("listings that no room holds", annotated::huge),
+        ("source texts", annotated::sources),
+        ("refused listings", annotated::refusals),
     ];
     for (name, run) in runs {
         let (start, calls) = (std::time::Instant::now(), checker.calls);

@@ -109,8 +109,8 @@ pub fn limit(checker: &mut Checker, families: &[Family]) {
 const LENT: [usize; 13] =
     [0, 1, 2, 3, 7, 8, 9, 64, 600, LIMIT / 8 - 1, LIMIT / 8, LIMIT / 8 + 1, LIMIT / 4];
 
-/// Refusals 1, 2, 3 and 5, which the Rust does not have. Where more causes hold, the least number is
-/// expected; none depends on the room.
+/// Refusals 1, 2, 3, 5, 6 and 7, which the Rust does not have. Where more causes hold, the least
+/// number is expected; none depends on the room.
 pub fn refusals(checker: &mut Checker, families: &[Family]) {
     let fit = of(families, |family| &family.middle);
     let unfit = of(families, |family| &family.unfit);

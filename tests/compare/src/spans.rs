@@ -52,10 +52,7 @@ impl Spans {
 
     /// The Rust's image with these spans.
     pub fn rust(&self, image: &BitVec) -> BitVec {
-        let mut rust = BitVec::new();
-        for i in 0..image.len() {
-            rust.write_bit(i, image.read_bit(i));
-        }
+        let mut rust = copy(image);
         for (offset, size) in self.rows() {
             let offset = (offset != ABSENT).then_some(offset as usize);
             rust.mark_span(offset, size as usize, BigInt::from(0), Span::new_dummy());
@@ -79,13 +76,19 @@ impl Spans {
         blocks
     }
 
-    /// The number and the value of refusal 3 or 5.
-    pub fn refusal(&self, unit: usize) -> Option<(u32, u64)> {
+    /// The number and the value of refusal 3.
+    pub fn unfit(&self) -> Option<(u32, u64)> {
         if self.offsets.len() != self.sizes.len() || self.offsets.len() > MOST {
             return Some((3, MOST as u64));
         }
-        if let Some((place, ..)) = self.present().find(|&(_, offset, size)| offset + size > END) {
-            return Some((3, place as u64));
+        let late = self.present().find(|&(_, offset, size)| offset + size > END);
+        late.map(|(place, ..)| (3, place as u64))
+    }
+
+    /// The number and the value of refusal 3 or 5.
+    pub fn refusal(&self, unit: usize) -> Option<(u32, u64)> {
+        if let Some(unfit) = self.unfit() {
+            return Some(unfit);
         }
         let last = |(offset, size): (u64, u64)| offset + (size.div_ceil(RECORD) - 1) * RECORD;
         let high = self.blocks().into_iter().any(|block| last(block) / unit as u64 > TOP);
@@ -97,6 +100,15 @@ impl Spans {
         let text = |(_, size): (u64, u64)| 2 * size.div_ceil(8) + 12 * size.div_ceil(RECORD);
         self.blocks().into_iter().map(text).sum::<u64>() + 11
     }
+}
+
+/// The same bits without spans.
+pub fn copy(image: &BitVec) -> BitVec {
+    let mut copy = BitVec::new();
+    for i in 0..image.len() {
+        copy.write_bit(i, image.read_bit(i));
+    }
+    copy
 }
 
 /// The first bit offset whose unit address is too high for a record.
@@ -167,7 +179,7 @@ fn chain(rng: &mut Rng, count: usize) -> Vec<(u32, u32)> {
     rows
 }
 
-fn any(rng: &mut Rng, numbers: &[u32]) -> u32 {
+pub fn any<T: Copy>(rng: &mut Rng, numbers: &[T]) -> T {
     numbers[rng.below(numbers.len())]
 }
 

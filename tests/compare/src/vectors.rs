@@ -1,8 +1,9 @@
 //! A sample of the Rust's answers as lines of text, for a test that cannot run the Rust.
 
 use crate::input::{hex, Image, Rng, RANDOM, SEED};
+use crate::listing::{self, Listing};
 use crate::options::{
-    self, group_bits, list_numbers, list_strings, string, LINE, LONGEST, RADIXES,
+    self, group_bits, list_numbers, list_strings, string, BASES, LINE, LONGEST, RADIXES,
 };
 use crate::spans::{self, too_high, Spans, ABSENT};
 use reference::diagn::Report;
@@ -28,6 +29,11 @@ const HEAD: &str = "\
 #                              OPTION3 the bytes per line
 #          x format_intelhex   OPTION the address unit, STRING the spans: for each its offset
 #                              (4294967295 for none) and its size, four bytes each, the low first
+#          a format_annotated  OPTION the base, OPTION2 the address base, OPTION3 the digits per
+#                              group, STRING the spans: for each its offset (4294967295 for none),
+#                              size, address, file, start and end, the address of eight bytes and
+#                              the others of four, the low byte first, STRING2 the firmware's text,
+#                              STRING3 the protocol's, STRING4 the label switch, one byte
 # BITS     the length of the image in bits
 # IMAGE    its ceil(BITS / 8) bytes, at most 64; what stands past the last bit is random
 # TEXT     the answer's bytes, at most 4000
@@ -38,21 +44,24 @@ const HEAD: &str = "\
 /// The most bytes of an image and of a text; the record is shorter than its limit.
 const IMAGE: usize = 64;
 const TEXT: usize = 4000;
-const RECORD: usize = 500_000;
-/// The most spans: their table is a string.
+const RECORD: usize = 524_288;
+/// The most spans, whose table is a string, of HEX and of a listing.
 const SPANS: usize = LONGEST / 8;
+const LISTED: usize = LONGEST / 28;
 
 const WIDTHS: [usize; 30] = [
     1, 2, 3, 4, 5, 6, 7, 8, 9, 10, 11, 12, 13, 15, 16, 17, 20, 24, 31, 32, 33, 48, 63, 64, 65, 100,
     127, 128, 257, 4096,
 ];
 
-/// The options, strings and spans of a call, and the bits of one line or digit.
+/// The options, strings and spans of a call, and the bits of one line or digit. A listing has all but
+/// the last in itself.
 #[derive(Default)]
 struct Call {
     numbers: [usize; 3],
     strings: [String; 4],
     spans: Spans,
+    listing: Listing,
     line: usize,
 }
 
@@ -84,6 +93,7 @@ pub fn print() -> io::Result<()> {
     memory(&mut record);
     dump(&mut record);
     intelhex(&mut record);
+    annotated(&mut record);
     assert!(record.text.len() < RECORD);
     io::stdout().lock().write_all(record.text.as_bytes())
 }
@@ -145,6 +155,14 @@ fn intelhex(record: &mut Record) {
     };
     let calls = span_lists(&mut record.rng);
     record.lines(Kind { letter: 'x', lengths: LENGTHS, rust }, &calls, 1);
+}
+
+fn annotated(record: &mut Record) {
+    let rust = |image: &BitVec, call: &Call| call.listing.rust(image).into();
+    // A seed of its own: the lines do not depend on those before them.
+    record.rng = Rng::new(SEED + 2);
+    let calls = listings(&mut record.rng);
+    record.lines(Kind { letter: 'a', lengths: LENGTHS, rust }, &calls, 1);
 }
 
 /// All bytes per line with one of the digits, then few with both.
@@ -214,6 +232,45 @@ fn span_lists(rng: &mut Rng) -> Vec<Call> {
     calls
 }
 
+/// Lists of spans with every address base, mostly of few spans; some have the most. None is refused,
+/// and each number is one that its bytes in the record hold.
+fn listings(rng: &mut Rng) -> Vec<Call> {
+    let mut calls = Vec::new();
+    while calls.len() < 100 {
+        let k = calls.len();
+        let (count, most) = match k {
+            0 | 1 => (0, 60),
+            _ if k % 40 == 39 => (LISTED, 600),
+            _ => (1 + k % 3, 90 + 40 * (k % 3) as u64),
+        };
+        let group = [1, 2, 3, 4, 8, 64][rng.below(6)];
+        let numbers = [BASES[k % 5], [16, 2 + k % 35][k % 2], group];
+        let listing = listing::random(rng, count, numbers, (k / 2 % 2) as u8);
+        let texts = listing.texts.iter().map(|text| text.len()).sum::<usize>();
+        let places = listing.columns.starts.iter().chain(&listing.columns.ends);
+        let held = places.into_iter().all(|&place| place <= u32::MAX.into());
+        let short = listing.text_len() <= most && texts <= 40;
+        if held && short {
+            let line = listing.columns.spans.extent().min(299);
+            calls.push(Call { numbers, listing, line, ..Call::default() });
+        }
+    }
+    calls
+}
+
+/// What stands for the strings of a call: those of a list, or the spans.
+fn strings(letter: char, call: &Call) -> [String; 4] {
+    let mut strings = call.strings.each_ref().map(|text| hex(text.as_bytes()));
+    if letter == 'x' {
+        strings[0] = hex(&call.spans.table());
+    } else if letter == 'a' {
+        let [firmware, protocol] = call.listing.texts.each_ref().map(|text| hex(text));
+        let spans = hex(&call.listing.columns.table());
+        strings = [spans, firmware, protocol, hex(&[call.listing.labels])];
+    }
+    strings
+}
+
 impl Record {
     /// `count` lines of a kind for each of the calls.
     fn lines(&mut self, kind: Kind, calls: &[Call], count: usize) {
@@ -225,11 +282,7 @@ impl Record {
                 let text = (kind.rust)(&image.rust, call);
                 assert!(lent.len() <= IMAGE && text.len() <= TEXT);
                 let numbers = call.numbers.map(|number| number.to_string()).join(" ");
-                let mut strings = call.strings.each_ref().map(|text| hex(text.as_bytes()));
-                if kind.letter == 'x' {
-                    strings[0] = hex(&call.spans.table());
-                }
-                let strings = strings.join(" ");
+                let strings = strings(kind.letter, call).join(" ");
                 let (letter, lent, text) = (kind.letter, hex(&lent), hex(&text));
                 self.text += &format!("{letter} {numbers} {strings} {bits} {lent} {text}\n");
             }

@@ -1,0 +1,228 @@
+// The lines of the annotated listing (document 01, module 9; the Rust's `format_annotated`): the
+// position, the logical address, the contents and the excerpt of one span. A caller has shown that
+// the options are in their range, that the columns are narrow, and that there is room.
+ghost use mathlib.Core.Path.{_≡_};
+ghost use mathlib.Core.Bool.{false};
+ghost use mathlib.Core.List.{List, [], _∷_};
+ghost use Prim.Native.Nat.{ℕ, _+_, _≤_, _<_, _^_};
+ghost use lib.ListN.{length};
+ghost use Rattle.output.specs.Pieces.{leading, every};
+ghost use Rattle.output.specs.Writes.{Writes};
+ghost use Rattle.listing.specs.Listing.{badAnnotated, contentDigit, contents, leftward, place, position, lineText};
+use bitvec::BitOffset;
+use listing::FormatAnnotatedOptions;
+use listing::Widths;
+use numbers::Letters;
+use ordering::ABSENT;
+
+// Stores a number of a span's position, or dashes where its offset is absent.
+fn put_place(
+    out: &mut [u8],
+    at: usize,
+    options: FormatAnnotatedOptions,
+    width: usize,
+    offset: u32,
+    number: u32,
+    dashes: &[u8],
+) -> usize
+    requires { ⌜ (badAnnotated options ≡ false) × (at + length (place options width offset number (now dashes)) ≤ length (now out)) ⌝ }
+    ensures { λ r. ⌜ Writes (place options width offset number (now (dashes .entry))) (now (out .entry)) at (now (out .exit)) r ⌝ }
+{
+    if offset == ABSENT {
+        return listing::put_right(out, at, dashes, width);
+    }
+    let radix = options.addr_base as u64;
+    numbers::put_padded(out, at, Letters::Lower, number as u64, radix, b' ', width)
+}
+
+// The length of a number of a span's position, or of so many dashes.
+fn place_length(
+    options: FormatAnnotatedOptions,
+    width: usize,
+    offset: u32,
+    number: u32,
+    dashes: usize,
+) -> usize
+    requires { ⌜ (badAnnotated options ≡ false) × (width ≤ 516) × (dashes ≤ 2) ⌝ }
+    ensures { λ r. ⌜ ((t : List ℕ) → length t ≡ dashes → length (place options width offset number t) ≡ r) × (r ≤ 516) ⌝ }
+{
+    if offset == ABSENT {
+        return listing::larger(width, dashes);
+    }
+    let radix = options.addr_base as u64;
+    listing::larger(width, numbers::digit_count(number as u64, radix))
+}
+
+// Stores the position of a span.
+fn put_position(
+    out: &mut [u8],
+    at: usize,
+    options: FormatAnnotatedOptions,
+    widths: Widths,
+    offset: u32,
+) -> usize
+    requires { ⌜ (badAnnotated options ≡ false) × (at + length (position options widths offset) ≤ length (now out)) ⌝ }
+    ensures { λ r. ⌜ Writes (position options widths offset) (now (out .entry)) at (now (out .exit)) r ⌝ }
+{
+    let mut next = output::put(out, at, b' ');
+    next = put_place(out, next, options, widths.outp, offset, offset / 8, b"--");
+    next = output::put(out, next, b':');
+    put_place(
+        out,
+        next,
+        options,
+        widths.outp_bit,
+        offset,
+        offset % 8,
+        b"-",
+    )
+}
+
+// The length of the position of a span.
+fn position_length(options: FormatAnnotatedOptions, widths: Widths, offset: u32) -> usize
+    requires { ⌜ (badAnnotated options ≡ false) × (widths .outp + widths .«outp_bit» + widths .addr + widths .content ≤ 516) ⌝ }
+    ensures { λ r. ⌜ (r ≡ length (position options widths offset)) × (r ≤ 2000) ⌝ }
+{
+    let byte = place_length(options, widths.outp, offset, offset / 8, 2);
+    let bit = place_length(options, widths.outp_bit, offset, offset % 8, 1);
+    2 + byte + bit
+}
+
+// Stores the space before digit `k`, where a group ends there.
+fn put_space(out: &mut [u8], at: usize, group: usize, k: usize) -> usize
+    requires { ⌜ (0 < group) × (at + length (leading (λ j. every group j (32 ∷ [])) k) ≤ length (now out)) ⌝ }
+    ensures { λ r. ⌜ Writes (leading (λ j. every group j (32 ∷ [])) k) (now (out .entry)) at (now (out .exit)) r ⌝ }
+{
+    if k == 0 {
+        return at;
+    }
+    output::put_every(out, at, group, k, b' ')
+}
+
+// Stores the digit of `width` bits from `from` on, or a point where one of them is past the end.
+fn put_content_digit(
+    out: &mut [u8],
+    at: usize,
+    image: &[u8],
+    bits: usize,
+    width: usize,
+    from: BitOffset,
+) -> usize
+    requires { ⌜ (width ≤ 5) × (from .0 + width < 2 ^ 64) × (at < length (now out)) ⌝ }
+    ensures { λ r. ⌜ Writes (contentDigit (now (image .entry)) bits width (from .0) ∷ []) (now (out .entry)) at (now (out .exit)) r ⌝ }
+{
+    if bits < from.0 + width {
+        return output::put(out, at, b'.');
+    }
+    digits::put_digit(out, at, image, bits, width, from)
+}
+
+// Stores the contents of a span.
+fn put_contents(
+    out: &mut [u8],
+    at: usize,
+    image: &[u8],
+    bits: usize,
+    options: FormatAnnotatedOptions,
+    offset: u32,
+    size: u32,
+) -> usize
+    requires { ⌜ (badAnnotated options ≡ false) × (at + length (contents options (now image) bits offset size) ≤ length (now out)) ⌝ }
+    ensures { λ r. ⌜ Writes (contents options (now (image .entry)) bits offset size) (now (out .entry)) at (now (out .exit)) r ⌝ }
+{
+    let width = digits::base_bits(options.base);
+    let count = bitvec::parts(size as usize, width);
+    let mut from = offset as usize;
+    let mut next = at;
+    let mut k = 0;
+    while k < count {
+        next = put_space(out, next, options.digits_per_group, k);
+        next = put_content_digit(out, next, image, bits, width, BitOffset(from));
+        from += width;
+        k += 1;
+    }
+    next
+}
+
+// The length of the contents of a span.
+fn contents_length(options: FormatAnnotatedOptions, size: u32) -> usize
+    requires { ⌜ badAnnotated options ≡ false ⌝ }
+    ensures { λ r. ⌜ ((bytes : List ℕ) (len offset : ℕ) → length (contents options bytes len offset size) ≡ r) × (r < 2 ^ 34) ⌝ }
+{
+    let count = bitvec::parts(size as usize, digits::base_bits(options.base));
+    output::between_length(count, options.digits_per_group, 1, 0) + count
+}
+
+// Stores the contents of a span at the left of their column.
+fn put_column(
+    out: &mut [u8],
+    at: usize,
+    image: &[u8],
+    bits: usize,
+    options: FormatAnnotatedOptions,
+    width: usize,
+    offset: u32,
+    size: u32,
+) -> usize
+    requires { ⌜ (badAnnotated options ≡ false) × (at + length (leftward width (contents options (now image) bits offset size)) ≤ length (now out)) ⌝ }
+    ensures { λ r. ⌜ Writes (leftward width (contents options (now (image .entry)) bits offset size)) (now (out .entry)) at (now (out .exit)) r ⌝ }
+{
+    let next = put_contents(out, at, image, bits, options, offset, size);
+    let free = output::free(contents_length(options, size), width);
+    output::put_fill(out, next, b' ', free)
+}
+
+// The length of the line of a span with an excerpt of `excerpt` bytes.
+pub fn line_length(
+    options: FormatAnnotatedOptions,
+    widths: Widths,
+    offset: u32,
+    size: u32,
+    addr: u64,
+    excerpt: usize,
+) -> usize
+    requires { ⌜ (badAnnotated options ≡ false) × (widths .outp + widths .«outp_bit» + widths .addr + widths .content ≤ 516) × (excerpt ≤ 1048576) ⌝ }
+    ensures { λ r. ⌜ ((bytes : List ℕ) (len : ℕ) (t : List ℕ) → length t ≡ excerpt → length (lineText options widths bytes len offset size addr t) ≡ r) × (r < 2 ^ 35) ⌝ }
+{
+    let position = position_length(options, widths, offset);
+    let digits = numbers::digit_count(addr, options.addr_base as u64);
+    let address = listing::larger(widths.addr, digits);
+    let content = listing::larger(widths.content, contents_length(options, size));
+    position + address + content + excerpt + 10
+}
+
+// Stores the line of a span.
+pub fn put_line(
+    out: &mut [u8],
+    at: usize,
+    image: &[u8],
+    bits: usize,
+    options: FormatAnnotatedOptions,
+    widths: Widths,
+    offset: u32,
+    size: u32,
+    addr: u64,
+    excerpt: &[u8],
+) -> usize
+    requires { ⌜ (badAnnotated options ≡ false) × (at + length (lineText options widths (now image) bits offset size addr (now excerpt)) ≤ length (now out)) ⌝ }
+    ensures { λ r. ⌜ Writes (lineText options widths (now (image .entry)) bits offset size addr (now (excerpt .entry))) (now (out .entry)) at (now (out .exit)) r ⌝ }
+{
+    let radix = options.addr_base as u64;
+    let mut next = put_position(out, at, options, widths, offset);
+    next = output::put_all(out, next, b" | ");
+    next = numbers::put_padded(out, next, Letters::Lower, addr, radix, b' ', widths.addr);
+    next = output::put_all(out, next, b" | ");
+    next = put_column(
+        out,
+        next,
+        image,
+        bits,
+        options,
+        widths.content,
+        offset,
+        size,
+    );
+    next = output::put_all(out, next, b" ; ");
+    next = output::put_all(out, next, excerpt);
+    output::put(out, next, b'\n')
+}
