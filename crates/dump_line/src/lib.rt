@@ -75,17 +75,6 @@ fn put_dump_byte(
     output::put(out, next, b' ')
 }
 
-// Stores the space before each fourth byte of a line but the first.
-fn put_gap(out: &mut [u8], at: usize, j: usize) -> usize
-    requires { ⌜ at + length (leading (λ k. every 4 k (ascii " ")) j) ≤ length (now out) ⌝ }
-    ensures { λ r. ⌜ Writes (leading (λ k. every 4 k (ascii " ")) j) (now (out .entry)) at (now (out .exit)) r ⌝ }
-{
-    if j == 0 {
-        return at;
-    }
-    output::put_every(out, at, 4, j, b' ')
-}
-
 // Stores the `count` bytes of a line from byte `first` on, in digits of `width` bits.
 fn put_digit_column(
     out: &mut [u8],
@@ -102,7 +91,7 @@ fn put_digit_column(
     let mut next = at;
     let mut j = 0;
     while j < count {
-        next = put_gap(out, next, j);
+        next = output::put_between(out, next, 4, j, b' ');
         next = put_dump_byte(out, next, image, bits, width, BitOffset((first + j) * 8));
         j += 1;
     }

@@ -22,7 +22,7 @@ use Rattle.digits.specs.Base.{baseBits}
 use Rattle.ordering.specs.Order.{absent}
 use Rattle.listing.specs.declared.FormatAnnotatedOptions.{FormatAnnotatedOptions}
 use Rattle.listing.specs.declared.Widths.{Widths}
-use Rattle.listing.specs.Listing.{badAnnotated, contentDigits, contentNeed, addrTitle, wider, widthsOf, right, heading}
+use Rattle.listing.specs.Listing.{badAnnotated, contentDigits, contentNeed, addrTitle, wider, widthsOf, atRight, heading}
 
 -- Options in their range.
 pub record Good (o : FormatAnnotatedOptions) : Type 0 where
@@ -98,16 +98,16 @@ heading-parts o w =
     let base = number-length Lower 10 (o .base) in
     let t₁ = numberText Lower 10 (o .base) ++ ascii ")\n\n" in
     let t₂ = ascii " | data (base " ++ t₁ in
-    let t₃ = right (w .addr) (addrTitle (o .«addr_base»)) ++ t₂ in
+    let t₃ = atRight (w .addr) (addrTitle (o .«addr_base»)) ++ t₂ in
     let t₄ = ascii " | " ++ t₃ in
     omega (
       arith,
       length-append (numberText Lower 10 (o .base)) (ascii ")\n\n"),
       length-append (ascii " | data (base ") t₁,
-      length-append (right (w .addr) (addrTitle (o .«addr_base»))) t₂,
+      length-append (atRight (w .addr) (addrTitle (o .«addr_base»))) t₂,
       length-append (ascii " | ") t₃,
-      length-append (right (w .outp + w .«outp_bit» + 1) (ascii "outp")) t₄,
-      length-append (ascii " ") (right (w .outp + w .«outp_bit» + 1) (ascii "outp") ++ t₄),
+      length-append (atRight (w .outp + w .«outp_bit» + 1) (ascii "outp")) t₄,
+      length-append (ascii " ") (atRight (w .outp + w .«outp_bit» + 1) (ascii "outp") ++ t₄),
     )
 
 -- The widths with one span more: the same where its offset is absent.

@@ -69,8 +69,8 @@ unfoldable pub addrTitle : ℕ → List ℕ
 addrTitle base = cond (eqb base 16) (ascii "addr") (ascii "addr (base " ++ (numberText Lower 10 base ++ ascii ")"))
 
 -- The widths before any span is measured: positions of two digits and a bit number of one, the title, and one group of digits.
-unfoldable pub least : FormatAnnotatedOptions → Widths
-least o = record { outp = 2; «outp_bit» = 1; addr = length (addrTitle (o .«addr_base»)); content = o .«digits_per_group» }
+unfoldable pub narrowest : FormatAnnotatedOptions → Widths
+narrowest o = record { outp = 2; «outp_bit» = 1; addr = length (addrTitle (o .«addr_base»)); content = o .«digits_per_group» }
 
 -- The widths with one span more.
 unfoldable pub wider : FormatAnnotatedOptions → Widths → ℕ → ℕ → ℕ → Widths
@@ -84,29 +84,29 @@ wider o w offset size address =
 
 -- The widths over the first n spans that have an offset, shown or hidden.
 unfoldable pub widthsOf : FormatAnnotatedOptions → List ℕ → List ℕ → List ℕ → ℕ → Widths
-widthsOf o offsets sizes addrs zero = least o
+widthsOf o offsets sizes addrs zero = narrowest o
 widthsOf o offsets sizes addrs (suc n) =
     let before = widthsOf o offsets sizes addrs n in
     cond (eqb (getD offsets n 0) absent) before (wider o before (getD offsets n 0) (getD sizes n 0) (getD addrs n 0))
 
 -- A text at the right and at the left of a column.
-abbrev pub right : ℕ → List ℕ → List ℕ
-right width t = padded (code " ") width t
+abbrev pub atRight : ℕ → List ℕ → List ℕ
+atRight width t = padded (code " ") width t
 
-abbrev pub leftward : ℕ → List ℕ → List ℕ
-leftward width t = t ++ replicate (width - length t) (code " ")
+abbrev pub atLeft : ℕ → List ℕ → List ℕ
+atLeft width t = t ++ replicate (width - length t) (code " ")
 
 -- The two lines above the spans: the columns' titles, and an empty one.
 unfoldable pub heading : FormatAnnotatedOptions → Widths → List ℕ
 heading o w =
-    ascii " " ++ (right (w .outp + w .«outp_bit» + 1) (ascii "outp")
-    ++ (ascii " | " ++ (right (w .addr) (addrTitle (o .«addr_base»))
+    ascii " " ++ (atRight (w .outp + w .«outp_bit» + 1) (ascii "outp")
+    ++ (ascii " | " ++ (atRight (w .addr) (addrTitle (o .«addr_base»))
     ++ (ascii " | data (base " ++ (numberText Lower 10 (o .base)
     ++ ascii ")\n\n")))))
 
 -- A number of a span's position, or dashes where its offset is absent.
 unfoldable pub place : FormatAnnotatedOptions → ℕ → ℕ → ℕ → List ℕ → List ℕ
-place o width offset n dashes = right width (cond (eqb offset absent) dashes (numberText Lower (o .«addr_base») n))
+place o width offset n dashes = atRight width (cond (eqb offset absent) dashes (numberText Lower (o .«addr_base») n))
 
 -- A span's position: the byte, and the bit in it.
 unfoldable pub position : FormatAnnotatedOptions → Widths → ℕ → List ℕ
@@ -118,8 +118,8 @@ position o w offset =
 unfoldable pub lineText : FormatAnnotatedOptions → Widths → List ℕ → ℕ → ℕ → ℕ → ℕ → List ℕ → List ℕ
 lineText o w bytes len offset size address excerpt =
     position o w offset
-    ++ (ascii " | " ++ (right (w .addr) (numberText Lower (o .«addr_base») address)
-    ++ (ascii " | " ++ (leftward (w .content) (contents o bytes len offset size)
+    ++ (ascii " | " ++ (atRight (w .addr) (numberText Lower (o .«addr_base») address)
+    ++ (ascii " | " ++ (atLeft (w .content) (contents o bytes len offset size)
     ++ (ascii " ; " ++ (excerpt
     ++ ascii "\n"))))))
 

@@ -43,13 +43,6 @@ pub fn bad_annotated(options: FormatAnnotatedOptions) -> bool
     1 < options.display_labels
 }
 
-// The larger of two numbers.
-pub fn larger(a: usize, b: usize) -> usize
-    ensures { λ r. ⌜ r ≡ max a b ⌝ }
-{
-    if a < b { b } else { a }
-}
-
 // What the contents of a span of `size` bits ask of the width of their column.
 fn content_need(options: FormatAnnotatedOptions, size: u32) -> usize
     requires { ⌜ badAnnotated options ≡ false ⌝ }
@@ -67,7 +60,7 @@ fn content_need(options: FormatAnnotatedOptions, size: u32) -> usize
 }
 
 // The length of the title of the column of addresses.
-pub fn title_length(addr_base: usize) -> usize
+fn title_length(addr_base: usize) -> usize
     requires { ⌜ «addr_base» ≤ 36 ⌝ }
     ensures { λ r. ⌜ (r ≡ length (addrTitle «addr_base»)) × (r ≤ 14) ⌝ }
 {
@@ -94,10 +87,10 @@ fn wider(
     let address = numbers::digit_count(addr, radix);
     let content = content_need(options, size);
     Widths {
-        outp: larger(widths.outp, byte),
-        outp_bit: larger(widths.outp_bit, bit),
-        addr: larger(widths.addr, address),
-        content: larger(widths.content, content),
+        outp: output::larger(widths.outp, byte),
+        outp_bit: output::larger(widths.outp_bit, bit),
+        addr: output::larger(widths.addr, address),
+        content: output::larger(widths.content, content),
     }
 }
 
@@ -127,22 +120,13 @@ pub fn column_widths(
     widths
 }
 
-// Stores `s` at the right of a column.
-pub fn put_right(out: &mut [u8], at: usize, s: &[u8], width: usize) -> usize
-    requires { ⌜ at + max width (length (now s)) ≤ length (now out) ⌝ }
-    ensures { λ r. ⌜ Writes (padded 32 width (now (s .entry))) (now (out .entry)) at (now (out .exit)) r ⌝ }
-{
-    let next = output::put_fill(out, at, b' ', output::free(s.len(), width));
-    output::put_all(out, next, s)
-}
-
 // Stores the title of the column of addresses.
 fn put_title(out: &mut [u8], at: usize, addr_base: usize, width: usize) -> usize
     requires { ⌜ («addr_base» ≤ 36) × (at + max width (length (addrTitle «addr_base»)) ≤ length (now out)) ⌝ }
     ensures { λ r. ⌜ Writes (padded 32 width (addrTitle «addr_base»)) (now (out .entry)) at (now (out .exit)) r ⌝ }
 {
     if addr_base == 16 {
-        return put_right(out, at, b"addr", width);
+        return numbers::put_right(out, at, b"addr", width);
     }
     let free = output::free(title_length(addr_base), width);
     let mut next = output::put_fill(out, at, b' ', free);
@@ -156,8 +140,8 @@ pub fn heading_length(options: FormatAnnotatedOptions, widths: Widths) -> usize
     requires { ⌜ (badAnnotated options ≡ false) × (widths .outp + widths .«outp_bit» + widths .addr + widths .content ≤ 516) ⌝ }
     ensures { λ r. ⌜ (r ≡ length (heading options widths)) × (r ≤ 700) ⌝ }
 {
-    let outp = larger(widths.outp + widths.outp_bit + 1, 4);
-    let addr = larger(widths.addr, title_length(options.addr_base));
+    let outp = output::larger(widths.outp + widths.outp_bit + 1, 4);
+    let addr = output::larger(widths.addr, title_length(options.addr_base));
     let base = numbers::digit_count(options.base as u64, 10);
     21 + outp + addr + base
 }
@@ -168,7 +152,7 @@ pub fn put_heading(out: &mut [u8], options: FormatAnnotatedOptions, widths: Widt
     ensures { λ r. ⌜ Writes (heading options widths) (now (out .entry)) 0 (now (out .exit)) r ⌝ }
 {
     let mut next = output::put(out, 0, b' ');
-    next = put_right(out, next, b"outp", widths.outp + widths.outp_bit + 1);
+    next = numbers::put_right(out, next, b"outp", widths.outp + widths.outp_bit + 1);
     next = output::put_all(out, next, b" | ");
     next = put_title(out, next, options.addr_base, widths.addr);
     next = output::put_all(out, next, b" | data (base ");

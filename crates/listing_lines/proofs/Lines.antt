@@ -19,7 +19,7 @@ use Rattle.digits.specs.Base.{baseBits}
 use Rattle.ordering.specs.Order.{absent}
 use Rattle.listing.specs.declared.FormatAnnotatedOptions.{FormatAnnotatedOptions}
 use Rattle.listing.specs.declared.Widths.{Widths}
-use Rattle.listing.specs.Listing.{contentDigits, contentDigit, contents, right, leftward, place, position, lineText}
+use Rattle.listing.specs.Listing.{contentDigits, contentDigit, contents, atRight, atLeft, place, position, lineText}
 
 -- What stands before digit k of the contents, and the digit.
 abbrev pub gap : ℕ → ℕ → List ℕ
@@ -29,11 +29,11 @@ abbrev pub digit : List ℕ → ℕ → ℕ → ℕ → ℕ → List ℕ
 digit bytes len w offset k = contentDigit bytes len w (offset + k * w) ∷ []
 
 -- The number of a position, and the dashes in its place.
-pub place-absent : (o : FormatAnnotatedOptions) (width offset n : ℕ) (t : List ℕ) → offset ≡ absent → place o width offset n t ≡ right width t
+pub place-absent : (o : FormatAnnotatedOptions) (width offset n : ℕ) (t : List ℕ) → offset ≡ absent → place o width offset n t ≡ atRight width t
 unfolding place
 place-absent o width offset n t e = simp (eq-eqb offset absent e)
 
-pub place-present : (o : FormatAnnotatedOptions) (width offset n : ℕ) (t : List ℕ) → offset ≢ absent → place o width offset n t ≡ right width (numberText Lower (o .«addr_base») n)
+pub place-present : (o : FormatAnnotatedOptions) (width offset n : ℕ) (t : List ℕ) → offset ≢ absent → place o width offset n t ≡ atRight width (numberText Lower (o .«addr_base») n)
 unfolding place
 place-present o width offset n t e = simp (ne-eqb offset absent e)
 
@@ -46,8 +46,8 @@ position-parts o w offset =
     omega (arith, length-append (ascii ":") bit, length-append byte (ascii ":" ++ bit), length-append (ascii " ") (byte ++ (ascii ":" ++ bit)))
 
 -- A text at the left of a column has its width, or its own where that is larger.
-pub leftward-length : (width : ℕ) (t : List ℕ) → length (leftward width t) ≡ max width (length t)
-leftward-length width t =
+pub at-left-length : (width : ℕ) (t : List ℕ) → length (atLeft width t) ≡ max width (length t)
+at-left-length width t =
     length-append t (replicate (width - length t) (code " ")) ∙ omega (arith, length-replicate {A = ℕ} (width - length t) (code " "))
 
 -- The contents: a character for each digit, and a space between groups.
@@ -70,8 +70,8 @@ pub line-parts : (o : FormatAnnotatedOptions) (w : Widths) (bytes : List ℕ) (l
     ≡ length (position o w offset) + max (w .addr) (digitCount (o .«addr_base») address) + max (w .content) (length (contents o bytes len offset size)) + length excerpt + 10
 unfolding lineText
 line-parts o w bytes len offset size address excerpt =
-    let number = right (w .addr) (numberText Lower (o .«addr_base») address) in
-    let column = leftward (w .content) (contents o bytes len offset size) in
+    let number = atRight (w .addr) (numberText Lower (o .«addr_base») address) in
+    let column = atLeft (w .content) (contents o bytes len offset size) in
     let t₁ = excerpt ++ ascii "\n" in
     let t₂ = ascii " ; " ++ t₁ in
     let t₃ = column ++ t₂ in
@@ -88,5 +88,5 @@ line-parts o w bytes len offset size address excerpt =
       length-append (position o w offset) (ascii " | " ++ t₅),
       padded-length 32 (w .addr) (numberText Lower (o .«addr_base») address),
       number-length Lower (o .«addr_base») address,
-      leftward-length (w .content) (contents o bytes len offset size),
+      at-left-length (w .content) (contents o bytes len offset size),
     )

@@ -6,9 +6,8 @@ ghost use mathlib.Core.Bool.{false};
 ghost use mathlib.Core.List.{List, [], _∷_};
 ghost use Prim.Native.Nat.{ℕ, _+_, _≤_, _<_, _^_};
 ghost use lib.ListN.{length};
-ghost use Rattle.output.specs.Pieces.{leading, every};
 ghost use Rattle.output.specs.Writes.{Writes};
-ghost use Rattle.listing.specs.Listing.{badAnnotated, contentDigit, contents, leftward, place, position, lineText};
+ghost use Rattle.listing.specs.Listing.{badAnnotated, contentDigit, contents, atLeft, place, position, lineText};
 use bitvec::BitOffset;
 use listing::FormatAnnotatedOptions;
 use listing::Widths;
@@ -29,7 +28,7 @@ fn put_place(
     ensures { λ r. ⌜ Writes (place options width offset number (now (dashes .entry))) (now (out .entry)) at (now (out .exit)) r ⌝ }
 {
     if offset == ABSENT {
-        return listing::put_right(out, at, dashes, width);
+        return numbers::put_right(out, at, dashes, width);
     }
     let radix = options.addr_base as u64;
     numbers::put_padded(out, at, Letters::Lower, number as u64, radix, b' ', width)
@@ -47,10 +46,10 @@ fn place_length(
     ensures { λ r. ⌜ ((t : List ℕ) → length t ≡ dashes → length (place options width offset number t) ≡ r) × (r ≤ 516) ⌝ }
 {
     if offset == ABSENT {
-        return listing::larger(width, dashes);
+        return output::larger(width, dashes);
     }
     let radix = options.addr_base as u64;
-    listing::larger(width, numbers::digit_count(number as u64, radix))
+    output::larger(width, numbers::digit_count(number as u64, radix))
 }
 
 // Stores the position of a span.
@@ -86,17 +85,6 @@ fn position_length(options: FormatAnnotatedOptions, widths: Widths, offset: u32)
     let byte = place_length(options, widths.outp, offset, offset / 8, 2);
     let bit = place_length(options, widths.outp_bit, offset, offset % 8, 1);
     2 + byte + bit
-}
-
-// Stores the space before digit `k`, where a group ends there.
-fn put_space(out: &mut [u8], at: usize, group: usize, k: usize) -> usize
-    requires { ⌜ (0 < group) × (at + length (leading (λ j. every group j (32 ∷ [])) k) ≤ length (now out)) ⌝ }
-    ensures { λ r. ⌜ Writes (leading (λ j. every group j (32 ∷ [])) k) (now (out .entry)) at (now (out .exit)) r ⌝ }
-{
-    if k == 0 {
-        return at;
-    }
-    output::put_every(out, at, group, k, b' ')
 }
 
 // Stores the digit of `width` bits from `from` on, or a point where one of them is past the end.
@@ -136,7 +124,7 @@ fn put_contents(
     let mut next = at;
     let mut k = 0;
     while k < count {
-        next = put_space(out, next, options.digits_per_group, k);
+        next = output::put_between(out, next, options.digits_per_group, k, b' ');
         next = put_content_digit(out, next, image, bits, width, BitOffset(from));
         from += width;
         k += 1;
@@ -164,8 +152,8 @@ fn put_column(
     offset: u32,
     size: u32,
 ) -> usize
-    requires { ⌜ (badAnnotated options ≡ false) × (at + length (leftward width (contents options (now image) bits offset size)) ≤ length (now out)) ⌝ }
-    ensures { λ r. ⌜ Writes (leftward width (contents options (now (image .entry)) bits offset size)) (now (out .entry)) at (now (out .exit)) r ⌝ }
+    requires { ⌜ (badAnnotated options ≡ false) × (at + length (atLeft width (contents options (now image) bits offset size)) ≤ length (now out)) ⌝ }
+    ensures { λ r. ⌜ Writes (atLeft width (contents options (now (image .entry)) bits offset size)) (now (out .entry)) at (now (out .exit)) r ⌝ }
 {
     let next = put_contents(out, at, image, bits, options, offset, size);
     let free = output::free(contents_length(options, size), width);
@@ -186,8 +174,8 @@ pub fn line_length(
 {
     let position = position_length(options, widths, offset);
     let digits = numbers::digit_count(addr, options.addr_base as u64);
-    let address = listing::larger(widths.addr, digits);
-    let content = listing::larger(widths.content, contents_length(options, size));
+    let address = output::larger(widths.addr, digits);
+    let content = output::larger(widths.content, contents_length(options, size));
     position + address + content + excerpt + 10
 }
 

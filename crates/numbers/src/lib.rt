@@ -94,3 +94,12 @@ pub fn put_padded(
     let next = put_fill(out, at, fill, free(count, width));
     put_number(out, next, letters, value, radix)
 }
+
+// Stores a text, filled with spaces on its left to a width.
+pub fn put_right(out: &mut [u8], at: usize, s: &[u8], width: usize) -> usize
+    requires { ⌜ at + max width (length (now s)) ≤ length (now out) ⌝ }
+    ensures { λ r. ⌜ Writes (padded 32 width (now (s .entry))) (now (out .entry)) at (now (out .exit)) r ⌝ }
+{
+    let next = output::put_fill(out, at, b' ', output::free(s.len(), width));
+    output::put_all(out, next, s)
+}

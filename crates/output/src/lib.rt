@@ -2,9 +2,9 @@
 // behind what it wrote; its caller has shown that there is room.
 ghost use mathlib.Core.Path.{_≡_};
 ghost use mathlib.Core.List.{[], _∷_};
-ghost use Prim.Native.Nat.{_+_, _-_, _*_, _/_, _≤_, _<_, _^_};
+ghost use Prim.Native.Nat.{_+_, _-_, _*_, _/_, _≤_, _<_, _^_, max};
 ghost use lib.ListN.{length, replicate};
-ghost use Rattle.output.specs.Pieces.{every};
+ghost use Rattle.output.specs.Pieces.{leading, every};
 ghost use Rattle.output.specs.Writes.{Writes};
 
 // Stores one byte.
@@ -51,6 +51,13 @@ pub fn free(length: usize, width: usize) -> usize
     if length < width { width - length } else { 0 }
 }
 
+// The larger of two numbers.
+pub fn larger(a: usize, b: usize) -> usize
+    ensures { λ r. ⌜ r ≡ max a b ⌝ }
+{
+    if a < b { b } else { a }
+}
+
 // Stores `byte` where `n` divides `k`, and nothing where not.
 pub fn put_every(out: &mut [u8], at: usize, n: usize, k: usize, byte: u8) -> usize
     requires { ⌜ (0 < n) × (at + length (every n k (byte ∷ [])) ≤ length (now out)) ⌝ }
@@ -60,6 +67,17 @@ pub fn put_every(out: &mut [u8], at: usize, n: usize, k: usize, byte: u8) -> usi
         return at;
     }
     put(out, at, byte)
+}
+
+// Stores `byte` between items, before item `k`: where `n` divides `k`, and not before the first.
+pub fn put_between(out: &mut [u8], at: usize, n: usize, k: usize, byte: u8) -> usize
+    requires { ⌜ (0 < n) × (at + length (leading (λ j. every n j (byte ∷ [])) k) ≤ length (now out)) ⌝ }
+    ensures { λ r. ⌜ Writes (leading (λ j. every n j (byte ∷ [])) k) (now (out .entry)) at (now (out .exit)) r ⌝ }
+{
+    if k == 0 {
+        return at;
+    }
+    put_every(out, at, n, k, byte)
 }
 
 // How long the texts between `count` items are together: the text before item k has the length

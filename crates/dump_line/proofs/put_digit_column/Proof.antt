@@ -34,8 +34,8 @@ room c =
 loop-holds : tie.Need-loop-holds Inv-loop μ-loop
 loop-holds c = (search needs, rw joined-none (writes-nothing _ _), refl)
 
-put-gap-requires : tie.Need-put-gap-requires Inv-loop μ-loop
-put-gap-requires c κs = omega (arith, room (c .before))
+put-between-requires : tie.Need-put-between-requires Inv-loop μ-loop
+put-between-requires c κs = (omega arith, omega (arith, room (c .before)))
 
 add-t15 : tie.Need-add-t15 Inv-loop μ-loop
 add-t15 c = search needs
@@ -52,7 +52,7 @@ put-dump-byte-requires c κs =
       start .pre .0,
       start .pre .1,
       omega arith,
-      omega (arith, room turn, called .put-gap .ensures .next, byte-length (a .image .now) (a .bits) (a .width) ((a .first + turn .before .loop .j) * 8)),
+      omega (arith, room turn, called .put-between .ensures .next, byte-length (a .image .now) (a .bits) (a .width) ((a .first + turn .before .loop .j) * 8)),
     )
 
 add-j : tie.Need-add-j Inv-loop μ-loop
@@ -66,7 +66,7 @@ loop-again c =
     let called = c .before .before in
     let spaced = called .before .before .before .before in
     let l = spaced .before .before .before in
-    (search needs, rw joined-next (writes-then (l .loop .inv .1) (writes-then (spaced .put-gap .ensures) (called .put-dump-byte .ensures))), search needs)
+    (search needs, rw joined-next (writes-then (l .loop .inv .1) (writes-then (spaced .put-between .ensures) (called .put-dump-byte .ensures))), search needs)
 
 same-length : tie.Need-same-length Inv-loop μ-loop
 same-length c = search needs
@@ -84,7 +84,7 @@ put-digit-column-spec =
     Inv-loop
     μ-loop
     loop-holds
-    put-gap-requires
+    put-between-requires
     add-t15
     mul-t16
     put-dump-byte-requires

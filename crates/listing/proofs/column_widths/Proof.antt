@@ -5,7 +5,7 @@ use mathlib.Core.Logic.{⊎-elim}
 use Prim.Native.Nat.{_-_, _≤_}
 use native.Mathlib.Omega.{arith}
 use lib.ListN.{length}
-use Rattle.listing.specs.Listing.{least, widthsOf}
+use Rattle.listing.specs.Listing.{narrowest, widthsOf}
 use Rattle.listing.proofs.Columns.{good, widths-absent, widths-present}
 use borrow.Author.Needs.{needs}
 use Rattle.listing.proofs.column_widths.Statement.{statement}
@@ -27,7 +27,7 @@ title-length-requires : tie.Need-title-length-requires Inv-loop μ-loop
 title-length-requires c κs = good (c .before .before .before .args .options) (c .before .before .before .pre .0) .radix-most
 
 loop-holds : tie.Need-loop-holds Inv-loop μ-loop
-unfolding widthsOf least
+unfolding widthsOf narrowest
 loop-holds c = (search needs, rw (c .title-length .ensures .0), omega arith, omega arith, omega (arith, c .title-length .ensures .1), omega (arith, good (c .before .before .before .before .args .options) (c .before .before .before .before .pre .0) .group-most))
 
 mul-if1 : tie.Need-mul-if1 Inv-loop μ-loop

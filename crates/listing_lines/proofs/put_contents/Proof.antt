@@ -65,11 +65,11 @@ parts-requires c κs = (omega (arith, c .base-bits .ensures, good (c .before .be
 loop-holds : tie.Need-loop-holds Inv-loop μ-loop
 loop-holds c = (search needs, rw (zero-mul, add-zero), rw joined-none (writes-nothing _ _), refl)
 
-put-space-requires : tie.Need-put-space-requires Inv-loop μ-loop
-put-space-requires c κs = (good (c .before .before .before .before .before .before .before .args .options) (c .before .before .before .before .before .before .before .pre .0) .group-some, omega (arith, room (c .before)))
+put-between-requires : tie.Need-put-between-requires Inv-loop μ-loop
+put-between-requires c κs = (good (c .before .before .before .before .before .before .before .args .options) (c .before .before .before .before .before .before .before .pre .0) .group-some, omega (arith, room (c .before)))
 
 put-content-digit-requires : tie.Need-put-content-digit-requires Inv-loop μ-loop
-put-content-digit-requires c κs = (omega (arith, c .before .before .before .before .before .before .before .before .base-bits .ensures, base-small (c .before .before .before .before .before .before .before .before .before .before .before .args .options .base)), omega (arith, near (c .before .before .before .before .before)), omega (arith, room (c .before .before .before .before .before), c .before .before .before .put-space .ensures .next))
+put-content-digit-requires c κs = (omega (arith, c .before .before .before .before .before .before .before .before .base-bits .ensures, base-small (c .before .before .before .before .before .before .before .before .before .before .before .args .options .base)), omega (arith, near (c .before .before .before .before .before)), omega (arith, room (c .before .before .before .before .before), c .before .before .before .put-between .ensures .next))
 
 add-from : tie.Need-add-from Inv-loop μ-loop
 add-from c = record { fits = omega (arith, near (c .before .before .before .before .before .before .before .before)) }
@@ -86,7 +86,7 @@ loop-again c =
     let a = c .before .before .before .before .before .before .before .before .before .before .before .before .before .before .args in (
       search needs,
       omega (arith, l .inv .1, suc-mul (l .k) (c .before .before .before .before .before .before .before .before .before .before .before .base-bits .result)),
-      rw joined-next (writes-then (l .inv .2) (writes-then (c .before .before .before .before .before .before .put-space .ensures) (rw (← l .inv .1) (c .before .before .put-content-digit .ensures)))),
+      rw joined-next (writes-then (l .inv .2) (writes-then (c .before .before .before .before .before .before .put-between .ensures) (rw (← l .inv .1) (c .before .before .put-content-digit .ensures)))),
       search needs,
     )
 
@@ -108,7 +108,7 @@ put-contents-spec =
     base-bits-requires
     parts-requires
     loop-holds
-    put-space-requires
+    put-between-requires
     put-content-digit-requires
     add-from
     add-k

@@ -10,9 +10,9 @@ use Rattle.numbers.specs.Digits.{digitCount, numberText}
 use Rattle.output.specs.Writes.{Writes}
 use Rattle.numbers.proofs.Digits.{number-length, padded-length}
 use Rattle.output.proofs.Writes.{writes-then, writes-length}
-use Rattle.listing.specs.Listing.{contents, position, leftward, lineText}
+use Rattle.listing.specs.Listing.{contents, position, atLeft, lineText}
 use Rattle.listing.proofs.Columns.{good}
-use Rattle.listing_lines.proofs.Lines.{leftward-length, line-parts}
+use Rattle.listing_lines.proofs.Lines.{at-left-length, line-parts}
 use borrow.Author.Needs.{needs}
 use Rattle.listing_lines.proofs.put_line.Statement.{statement}
 use Rattle.listing_lines.proofs.put_line.Tie as tie
@@ -24,7 +24,7 @@ address s = max (s .args .widths .addr) (digitCount (s .args .options .«addr_ba
 abbrev column : tie.Start → List ℕ
 column s =
     let a = s .args in
-    leftward (a .widths .content) (contents (a .options) (a .image .now) (a .bits) (a .offset) (a .size))
+    atLeft (a .widths .content) (contents (a .options) (a .image .now) (a .bits) (a .offset) (a .size))
 
 abbrev place : tie.Start → ℕ
 place s = s .args .at + length (position (s .args .options) (s .args .widths) (s .args .offset))
@@ -33,7 +33,7 @@ place s = s .args .at + length (position (s .args .options) (s .args .widths) (s
 room : (s : tie.Start) → place s + address s + length (column s) + length (s .args .excerpt .now) + 10 ≤ length (s .args .out .now)
 room s =
     let a = s .args in
-    let wide = leftward-length (a .widths .content) (contents (a .options) (a .image .now) (a .bits) (a .offset) (a .size)) in
+    let wide = at-left-length (a .widths .content) (contents (a .options) (a .image .now) (a .bits) (a .offset) (a .size)) in
     omega (arith, s .pre .1, wide, line-parts (a .options) (a .widths) (a .image .now) (a .bits) (a .offset) (a .size) (a .addr) (a .excerpt .now))
 
 -- the place behind each column
