@@ -2,12 +2,13 @@
 // `tests/compare/run --vectors` made: for each answer a line `KIND OPTION OPTION2 OPTION3 STRING
 // STRING2 STRING3 STRING4 BITS IMAGE TEXT`, numbers in decimal, bytes in hexadecimal, `-` for none.
 // Prints a line with a count for each exporter.
-ghost use Prim.Native.Nat.{_≤_, _<_};
+ghost use Prim.Native.Nat.{_+_, _≤_, _<_};
 ghost use lib.ListN.{length};
 ghost use mathlib.Core.Path.{_≡_};
 ghost use Rattle.io.specs.Counts.{Counts};
 use format_dump::DumpOptions;
 use format_list::FormatListOptions;
+use listing::FormatAnnotatedOptions;
 use outcome::Export;
 
 // What stands in the output buffer before a call.
@@ -165,36 +166,151 @@ fn export_list(s: &[u8], line: Line, image: &[u8], out: &mut [u8]) -> Export {
     )
 }
 
-// The number that four bytes make, the low one first.
-fn word(a: u8, b: u8, c: u8, d: u8) -> u32 {
-    a as u32 + 256 * b as u32 + 65536 * c as u32 + 16777216 * d as u32
+fn wide(byte: u8) -> u64
+    ensures { λ r. ⌜ r ≤ 255 ⌝ }
+{
+    byte as u64
 }
 
-// A number of each row of a table of spans: the offsets, or from byte 4 of a row on the sizes.
-fn column(table: &[u8; 256], at: usize) -> [u32; 32]
-    requires { ⌜ at ≤ 4 ⌝ }
+// The number that `count` bytes of a table make from `at` on, the low one first.
+fn number_at(table: &[u8; 256], at: usize, count: usize) -> u64
+    requires { ⌜ at + count ≤ 256 ⌝ }
+{
+    let mut value: u64 = 0;
+    let mut left = count;
+    while 0 < left {
+        left -= 1;
+        value = value % 72057594037927936 * 256 + wide(table[at + left]);
+    }
+    value
+}
+
+// The number of four bytes at `at`, 0 where the table ends before.
+fn word_at(table: &[u8; 256], at: usize) -> u32 {
+    if 252 < at {
+        return 0;
+    }
+    (number_at(table, at, 4) % 4294967296) as u32
+}
+
+// The number of four bytes at `at` of each row of a table of spans.
+fn column(table: &[u8; 256], row: usize, at: usize) -> [u32; 32]
+    requires { ⌜ (row ≤ 28) × (at ≤ 28) ⌝ }
     ensures { λ r. ⌜ 32 ≡ length r ⌝ }
 {
     let mut numbers = [0; 32];
+    let mut i = at;
     for k in 0..32 {
-        let i = 8 * k + at;
-        numbers[k] = word(table[i], table[i + 1], table[i + 2], table[i + 3]);
+        numbers[k] = word_at(table, i);
+        i += row;
     }
     numbers
+}
+
+// The number of `count` bytes at `at` of each row of a listing's table.
+fn long_column(table: &[u8; 256], at: usize, count: usize) -> [u64; 9]
+    requires { ⌜ at + count ≤ 28 ⌝ }
+    ensures { λ r. ⌜ 9 ≡ length r ⌝ }
+{
+    let mut numbers = [0; 9];
+    for k in 0..9 {
+        numbers[k] = number_at(table, 28 * k + at, count);
+    }
+    numbers
+}
+
+// The file of each row of a listing's table.
+fn file_column(table: &[u8; 256]) -> [u8; 9]
+    ensures { λ r. ⌜ 9 ≡ length r ⌝ }
+{
+    let mut files = [0; 9];
+    for k in 0..9 {
+        files[k] = table[28 * k + 16];
+    }
+    files
 }
 
 // The first string is the table of spans.
 fn export_intelhex(s: &[u8], line: Line, image: &[u8], out: &mut [u8]) -> Export {
     let mut table = [0u8; 256];
     let n = bytes(s, line.strings, &mut table) / 8;
-    let offsets = column(&table, 0);
-    let sizes = column(&table, 4);
+    let offsets = column(&table, 8, 0);
+    let sizes = column(&table, 8, 4);
     intelhex::format_intelhex(
         image,
         line.bits,
         &offsets[..n],
         &sizes[..n],
         line.option,
+        out,
+    )
+}
+
+// The options of a listing. The fourth string is the label switch.
+fn listing_options(s: &[u8], line: Line) -> FormatAnnotatedOptions {
+    let mut labels = [0u8; 1];
+    bytes(s, field(s, field(s, field(s, line.strings))), &mut labels);
+    FormatAnnotatedOptions {
+        base: line.option,
+        addr_base: line.option2,
+        digits_per_group: line.option3,
+        display_labels: labels[0],
+    }
+}
+
+// The listing of the first `n` rows of a table.
+fn export_rows<'a>(
+    image: &[u8],
+    bits: usize,
+    table: &[u8; 256],
+    n: usize,
+    firmware: &'a [u8],
+    protocol: &'a [u8],
+    options: FormatAnnotatedOptions,
+    out: &mut [u8],
+) -> Export
+    requires { ⌜ n ≤ 9 ⌝ }
+{
+    let offsets = column(table, 28, 0);
+    let sizes = column(table, 28, 4);
+    let addrs = long_column(table, 8, 8);
+    let files = file_column(table);
+    let starts = long_column(table, 20, 4);
+    let ends = long_column(table, 24, 4);
+    annotated::format_annotated(
+        image,
+        bits,
+        &offsets[..n],
+        &sizes[..n],
+        &addrs[..n],
+        &files[..n],
+        &starts[..n],
+        &ends[..n],
+        firmware,
+        protocol,
+        options,
+        out,
+    )
+}
+
+// The first string is the table of spans, the second the firmware's text, the third the protocol's.
+fn export_annotated(s: &[u8], line: Line, image: &[u8], out: &mut [u8]) -> Export {
+    let options = listing_options(s, line);
+    let at2 = field(s, line.strings);
+    let mut firmware = [0u8; 256];
+    let n2 = bytes(s, at2, &mut firmware);
+    let mut protocol = [0u8; 256];
+    let n3 = bytes(s, field(s, at2), &mut protocol);
+    let mut table = [0u8; 256];
+    let n = bytes(s, line.strings, &mut table) / 28;
+    export_rows(
+        image,
+        line.bits,
+        &table,
+        n,
+        &firmware[..n2],
+        &protocol[..n3],
+        options,
         out,
     )
 }
@@ -248,6 +364,9 @@ fn export(s: &[u8], line: Line, out: &mut [u8]) -> Export {
     }
     if line.kind == b'x' {
         return export_intelhex(s, line, image, out);
+    }
+    if line.kind == b'a' {
+        return export_annotated(s, line, image, out);
     }
     export_plain(line, image, out)
 }
@@ -361,4 +480,5 @@ fn main() {
     report(b"format_logisim", s, b'g');
     report(b"format_dump", s, b'd');
     report(b"format_intelhex", s, b'x');
+    report(b"format_annotated", s, b'a');
 }

@@ -1,56 +1,32 @@
--- `vectors::column` meets its contract: each row is inside the table.
+-- `vectors::column` meets its contract: a row's place does not wrap.
 -- Assumes nothing.
 use mathlib.Core.Path.{_≡_}
-use Prim.Native.Nat.{_-_, _≤_}
+use Prim.Native.Nat.{_+_, _*_, _-_, _≤_}
 use lib.ListN.{length}
 use borrow.Author.Needs.{needs}
 use Rattle.vectors.proofs.column.Statement.{statement}
 use Rattle.vectors.proofs.column.Tie as tie
 
 abbrev Inv-loop : tie.InvT-loop
-Inv-loop table at numbers₀ k₀ numbers k = (k ≤ 32) × (32 ≡ length numbers)
+Inv-loop table row at numbers₀ i₀ k₀ numbers i k = (k ≤ 32) × (32 ≡ length numbers) × (i ≤ 28 + 28 * k)
 
 abbrev μ-loop : tie.MeasureT-loop
-μ-loop table at numbers₀ k₀ numbers k = 32 - k
+μ-loop table row at numbers₀ i₀ k₀ numbers i k = 32 - k
 
 loop-holds : tie.Need-loop-holds Inv-loop μ-loop
 loop-holds c = search needs
 
-mul-i : tie.Need-mul-i Inv-loop μ-loop
-mul-i c = search needs
-
-add-i : tie.Need-add-i Inv-loop μ-loop
-add-i c = search needs
-
-element-copy-out-word : tie.Need-element-copy-out-word Inv-loop μ-loop
-element-copy-out-word c = search needs
-
-add-word : tie.Need-add-word Inv-loop μ-loop
-add-word c = search needs
-
-element-copy-out-word-2 : tie.Need-element-copy-out-word-2 Inv-loop μ-loop
-element-copy-out-word-2 c = search needs
-
-add-word-2 : tie.Need-add-word-2 Inv-loop μ-loop
-add-word-2 c = search needs
-
-element-copy-out-word-3 : tie.Need-element-copy-out-word-3 Inv-loop μ-loop
-element-copy-out-word-3 c = search needs
-
-add-word-3 : tie.Need-add-word-3 Inv-loop μ-loop
-add-word-3 c = search needs
-
-element-copy-out-word-4 : tie.Need-element-copy-out-word-4 Inv-loop μ-loop
-element-copy-out-word-4 c = search needs
-
-word-requires : tie.Need-word-requires Inv-loop μ-loop
-word-requires c κs = search needs
+word-at-requires : tie.Need-word-at-requires Inv-loop μ-loop
+word-at-requires c κs = search needs
 
 mul-numbers : tie.Need-mul-numbers Inv-loop μ-loop
 mul-numbers c = search needs
 
 array-write-numbers : tie.Need-array-write-numbers Inv-loop μ-loop
 array-write-numbers c = search needs
+
+add-i : tie.Need-add-i Inv-loop μ-loop
+add-i c = search needs
 
 add-k : tie.Need-add-k Inv-loop μ-loop
 add-k c = search needs
@@ -71,18 +47,10 @@ column-spec =
     Inv-loop
     μ-loop
     loop-holds
-    mul-i
-    add-i
-    element-copy-out-word
-    add-word
-    element-copy-out-word-2
-    add-word-2
-    element-copy-out-word-3
-    add-word-3
-    element-copy-out-word-4
-    word-requires
+    word-at-requires
     mul-numbers
     array-write-numbers
+    add-i
     add-k
     loop-less
     loop-again
