@@ -4,6 +4,8 @@
 // of MIF and Logisim were not at hand: no example of their own is run here.
 mod dumps;
 mod hex;
+mod listing_refusals;
+mod listings;
 mod lists;
 mod memory;
 mod plain;
@@ -39,6 +41,8 @@ fn main() {
     count += dumps::bindump_of_three_bits();
     count += dumps::bytes_of_nine_bits();
     count += hex::all();
+    count += listings::all();
+    count += listing_refusals::all();
     io::print_decimal(1, count);
     io::write_all(1, b" examples came out\n");
 }
