@@ -1,28 +1,66 @@
 // Intel HEX, with units of 8 bits but where another one is named.
 ghost use Prim.Native.Nat.{_≤_};
+ghost use lib.ListN.{length};
 use crate::tell::OLD;
 use crate::tell::gave;
 use crate::tell::tell;
 use intelhex::format_intelhex;
 use ordering::ABSENT;
 
-fn no_spans() -> u64
+// Tells whether the export gives the text.
+fn writes(
+    name: &[u8],
+    image: &[u8],
+    bits: usize,
+    offsets: &[u32],
+    sizes: &[u32],
+    unit: usize,
+    text: &[u8],
+) -> u64
+    requires { ⌜ length (now text) ≤ 256 ⌝ }
     ensures { λ r. ⌜ r ≤ 1 ⌝ }
 {
     let mut out = [OLD; 256];
-    let answer = format_intelhex(&[0x12], 8, &[], &[], 8, &mut out);
-    tell(b"HEX, no spans", gave(answer, &out, 0, 11, b":00000001FF"))
+    let answer = format_intelhex(image, bits, offsets, sizes, unit, &mut out);
+    tell(name, gave(answer, &out, 0, text.len(), text))
+}
+
+// Tells whether it gives the refusal.
+fn refuses(
+    name: &[u8],
+    image: &[u8],
+    bits: usize,
+    offsets: &[u32],
+    sizes: &[u32],
+    unit: usize,
+    number: u32,
+    value: usize,
+) -> u64
+    ensures { λ r. ⌜ r ≤ 1 ⌝ }
+{
+    let mut out = [OLD; 256];
+    let answer = format_intelhex(image, bits, offsets, sizes, unit, &mut out);
+    tell(name, gave(answer, &out, number, value, b""))
+}
+
+fn no_spans() -> u64
+    ensures { λ r. ⌜ r ≤ 1 ⌝ }
+{
+    writes(b"HEX, no spans", &[0x12], 8, &[], &[], 8, b":00000001FF")
 }
 
 // The last byte has spare bits that are set.
 fn twelve_bits() -> u64
     ensures { λ r. ⌜ r ≤ 1 ⌝ }
 {
-    let mut out = [OLD; 256];
-    let answer = format_intelhex(&[0xab, 0xcf], 12, &[0], &[12], 8, &mut out);
-    tell(
+    writes(
         b"HEX, 12 bits ABC, span 0 size 12",
-        gave(answer, &out, 0, 27, b":02000000ABC093\n:00000001FF"),
+        &[0xab, 0xcf],
+        12,
+        &[0],
+        &[12],
+        8,
+        b":02000000ABC093\n:00000001FF",
     )
 }
 
@@ -30,89 +68,99 @@ fn twelve_bits() -> u64
 fn half_a_byte() -> u64
     ensures { λ r. ⌜ r ≤ 1 ⌝ }
 {
-    let mut out = [OLD; 256];
-    let answer = format_intelhex(&[0xab, 0xcd], 16, &[0], &[4], 8, &mut out);
-    tell(
+    writes(
         b"HEX, 16 bits ABCD, span 0 size 4",
-        gave(answer, &out, 0, 25, b":01000000AB54\n:00000001FF"),
+        &[0xab, 0xcd],
+        16,
+        &[0],
+        &[4],
+        8,
+        b":01000000AB54\n:00000001FF",
     )
 }
 
 fn empty_span_after() -> u64
     ensures { λ r. ⌜ r ≤ 1 ⌝ }
 {
-    let mut out = [OLD; 256];
-    let answer = format_intelhex(&[0x11, 0x22], 16, &[0, 0, 8], &[8, 0, 8], 8, &mut out);
-    tell(
+    writes(
         b"HEX, bytes 11 22, spans (0,8) (0,0) (8,8)",
-        gave(
-            answer,
-            &out,
-            0,
-            39,
-            b":0100000011EE\n:0100010022DC\n:00000001FF",
-        ),
+        &[0x11, 0x22],
+        16,
+        &[0, 0, 8],
+        &[8, 0, 8],
+        8,
+        b":0100000011EE\n:0100010022DC\n:00000001FF",
     )
 }
 
 fn empty_span_before() -> u64
     ensures { λ r. ⌜ r ≤ 1 ⌝ }
 {
-    let mut out = [OLD; 256];
-    let answer = format_intelhex(&[0x11, 0x22], 16, &[0, 0, 8], &[0, 8, 8], 8, &mut out);
-    tell(
+    writes(
         b"HEX, bytes 11 22, spans (0,0) (0,8) (8,8)",
-        gave(answer, &out, 0, 27, b":020000001122CB\n:00000001FF"),
+        &[0x11, 0x22],
+        16,
+        &[0, 0, 8],
+        &[0, 8, 8],
+        8,
+        b":020000001122CB\n:00000001FF",
     )
 }
 
 fn last_address() -> u64
     ensures { λ r. ⌜ r ≤ 1 ⌝ }
 {
-    let mut out = [OLD; 256];
-    let answer = format_intelhex(b"", 0, &[524280], &[8], 8, &mut out);
-    tell(
+    writes(
         b"HEX, empty image, span (524280,8)",
-        gave(answer, &out, 0, 25, b":01FFFF000001\n:00000001FF"),
+        b"",
+        0,
+        &[524280],
+        &[8],
+        8,
+        b":01FFFF000001\n:00000001FF",
     )
 }
 
 fn past_the_last_address() -> u64
     ensures { λ r. ⌜ r ≤ 1 ⌝ }
 {
-    let mut out = [OLD; 256];
-    let answer = format_intelhex(b"", 0, &[524288], &[8], 8, &mut out);
-    tell(
+    refuses(
         b"refusal 5: HEX, span (524288,8)",
-        gave(answer, &out, 5, 0, b""),
+        b"",
+        0,
+        &[524288],
+        &[8],
+        8,
+        5,
+        0,
     )
 }
 
 fn second_record() -> u64
     ensures { λ r. ⌜ r ≤ 1 ⌝ }
 {
-    let mut out = [OLD; 256];
-    let answer = format_intelhex(&[0; 33], 264, &[0], &[264], 8, &mut out);
-    tell(
+    writes(
         b"HEX, 33 zero bytes, span (0,264)",
-        gave(
-            answer,
-            &out,
-            0,
-            101,
-            b":200000000000000000000000000000000000000000000000000000000000000000000000E0\n:0100200000DF\n:00000001FF",
-        ),
+        &[0; 33],
+        264,
+        &[0],
+        &[264],
+        8,
+        b":200000000000000000000000000000000000000000000000000000000000000000000000E0\n:0100200000DF\n:00000001FF",
     )
 }
 
 fn absent_offset() -> u64
     ensures { λ r. ⌜ r ≤ 1 ⌝ }
 {
-    let mut out = [OLD; 256];
-    let answer = format_intelhex(&[0x12], 8, &[0, ABSENT], &[8, ABSENT], 8, &mut out);
-    tell(
+    writes(
         b"HEX, a span with an absent offset is skipped",
-        gave(answer, &out, 0, 25, b":0100000012ED\n:00000001FF"),
+        &[0x12],
+        8,
+        &[0, ABSENT],
+        &[8, ABSENT],
+        8,
+        b":0100000012ED\n:00000001FF",
     )
 }
 
@@ -120,65 +168,82 @@ fn absent_offset() -> u64
 fn unit_of_two_bytes() -> u64
     ensures { λ r. ⌜ r ≤ 1 ⌝ }
 {
-    let mut out = [OLD; 256];
-    let answer = format_intelhex(&[0, 0, 0x12], 24, &[16], &[8], 16, &mut out);
-    tell(
+    writes(
         b"HEX unit 16, span (16,8)",
-        gave(answer, &out, 0, 25, b":0100010012EC\n:00000001FF"),
+        &[0, 0, 0x12],
+        24,
+        &[16],
+        &[8],
+        16,
+        b":0100010012EC\n:00000001FF",
     )
 }
 
 fn past_the_bytes() -> u64
     ensures { λ r. ⌜ r ≤ 1 ⌝ }
 {
-    let mut out = [OLD; 256];
-    let answer = format_intelhex(&[0x12], 9, &[0], &[8], 0, &mut out);
-    tell(
+    refuses(
         b"refusal 1: HEX, 9 bits of one byte, before unit 0",
-        gave(answer, &out, 1, 0, b""),
+        &[0x12],
+        9,
+        &[0],
+        &[8],
+        0,
+        1,
+        0,
     )
 }
 
 fn no_unit() -> u64
     ensures { λ r. ⌜ r ≤ 1 ⌝ }
 {
-    let mut out = [OLD; 256];
-    let answer = format_intelhex(&[0x12], 8, &[0], &[], 0, &mut out);
-    tell(
+    refuses(
         b"refusal 2: HEX unit 0, before unequal slices",
-        gave(answer, &out, 2, 0, b""),
+        &[0x12],
+        8,
+        &[0],
+        &[],
+        0,
+        2,
+        0,
     )
 }
 
 fn large_unit() -> u64
     ensures { λ r. ⌜ r ≤ 1 ⌝ }
 {
-    let mut out = [OLD; 256];
-    let answer = format_intelhex(&[0x12], 8, &[0], &[8], 65, &mut out);
-    tell(b"refusal 2: HEX unit 65", gave(answer, &out, 2, 0, b""))
+    refuses(b"refusal 2: HEX unit 65", &[0x12], 8, &[0], &[8], 65, 2, 0)
 }
 
 fn long_list() -> u64
     ensures { λ r. ⌜ r ≤ 1 ⌝ }
 {
-    let mut out = [OLD; 256];
     let offsets = [16777216; 4097];
     let sizes = [8; 4097];
-    let answer = format_intelhex(&[0x12], 8, &offsets, &sizes, 8, &mut out);
-    tell(
+    refuses(
         b"refusal 3: 4,097 spans, before bad ones",
-        gave(answer, &out, 3, 4096, b""),
+        &[0x12],
+        8,
+        &offsets,
+        &sizes,
+        8,
+        3,
+        4096,
     )
 }
 
 fn unequal_slices() -> u64
     ensures { λ r. ⌜ r ≤ 1 ⌝ }
 {
-    let mut out = [OLD; 256];
-    let answer = format_intelhex(&[0x12], 8, &[0, 8], &[8], 8, &mut out);
-    tell(
+    refuses(
         b"refusal 3: two offsets and one size",
-        gave(answer, &out, 3, 4096, b""),
+        &[0x12],
+        8,
+        &[0, 8],
+        &[8],
+        8,
+        3,
+        4096,
     )
 }
 
@@ -186,29 +251,30 @@ fn unequal_slices() -> u64
 fn bad_span() -> u64
     ensures { λ r. ⌜ r ≤ 1 ⌝ }
 {
-    let mut out = [OLD; 256];
-    let answer = format_intelhex(
+    refuses(
+        b"refusal 3: span 2 ends past 16,777,216, before a high address",
         &[0x12],
         8,
         &[16777208, ABSENT, 16777209, 16777216],
         &[8, ABSENT, 8, 8],
         8,
-        &mut out,
-    );
-    tell(
-        b"refusal 3: span 2 ends past 16,777,216, before a high address",
-        gave(answer, &out, 3, 2, b""),
+        3,
+        2,
     )
 }
 
 fn past_32_bits() -> u64
     ensures { λ r. ⌜ r ≤ 1 ⌝ }
 {
-    let mut out = [OLD; 256];
-    let answer = format_intelhex(&[0x12], 8, &[0, 8], &[8, 4294967288], 8, &mut out);
-    tell(
+    refuses(
         b"refusal 3: offset plus size of span 1 is 4,294,967,296",
-        gave(answer, &out, 3, 1, b""),
+        &[0x12],
+        8,
+        &[0, 8],
+        &[8, 4294967288],
+        8,
+        3,
+        1,
     )
 }
 
@@ -227,15 +293,18 @@ fn no_room() -> u64
 fn published_record() -> u64
     ensures { λ r. ⌜ r ≤ 1 ⌝ }
 {
-    let mut out = [OLD; 256];
     let mut image = [0; 51];
     image[48] = 0x02;
     image[49] = 0x33;
     image[50] = 0x7a;
-    let answer = format_intelhex(&image, 408, &[384], &[24], 8, &mut out);
-    tell(
+    writes(
         b"HEX, published: 02 33 7A at address 30",
-        gave(answer, &out, 0, 29, b":0300300002337A1E\n:00000001FF"),
+        &image,
+        408,
+        &[384],
+        &[24],
+        8,
+        b":0300300002337A1E\n:00000001FF",
     )
 }
 
@@ -243,17 +312,14 @@ fn published_record() -> u64
 fn published_by_srecord() -> u64
     ensures { λ r. ⌜ r ≤ 1 ⌝ }
 {
-    let mut out = [OLD; 256];
-    let answer = format_intelhex(b"Hello, World\n", 104, &[0], &[104], 8, &mut out);
-    tell(
+    writes(
         b"HEX, published: the file of srec_intel(5)",
-        gave(
-            answer,
-            &out,
-            0,
-            49,
-            b":0D00000048656C6C6F2C20576F726C640AA1\n:00000001FF",
-        ),
+        b"Hello, World\n",
+        104,
+        &[0],
+        &[104],
+        8,
+        b":0D00000048656C6C6F2C20576F726C640AA1\n:00000001FF",
     )
 }
 
@@ -262,7 +328,6 @@ fn published_by_srecord() -> u64
 fn published_by_intelhex() -> u64
     ensures { λ r. ⌜ r ≤ 1 ⌝ }
 {
-    let mut out = [OLD; 256];
     let mut image = [0; 4084];
     image[4076] = 0xe4;
     image[4077] = 0xe7;
@@ -270,16 +335,14 @@ fn published_by_intelhex() -> u64
     image[4081] = 0xe1;
     image[4082] = 0x22;
     image[4083] = 0xe1;
-    let answer = format_intelhex(&image, 32672, &[32640, 32608], &[32, 16], 8, &mut out);
-    tell(
+    writes(
         b"HEX, published: a file of python3-intelhex",
-        gave(
-            answer,
-            &out,
-            0,
-            47,
-            b":020FEC00E4E738\n:040FF00022E122E1F7\n:00000001FF",
-        ),
+        &image,
+        32672,
+        &[32640, 32608],
+        &[32, 16],
+        8,
+        b":020FEC00E4E738\n:040FF00022E122E1F7\n:00000001FF",
     )
 }
 
