@@ -1,4 +1,9 @@
--- The annotated listing (document 01, module 9; the Rust's `format_annotated`): its columns, their widths, and its lines.
+-- The annotated listing (document 01, module 9; the Rust's `format_annotated`): its columns, their widths, and its lines. The paper's
+-- example, one span of one byte:
+--
+--      outp | addr | data (base 16)
+--
+--       0:0 |    0 | 12 ; nop
 use mathlib.Core.Bool.{Bool, cond, not, _||_}
 use mathlib.Core.List.{List, [], _∷_, _++_, flatMap}
 use Prim.Native.Nat.{ℕ, zero, suc, _+_, _-_, _*_, _/_, _%_, max}
@@ -35,6 +40,7 @@ pub record Spans : Type 0 where
   pub starts : List ℕ
   pub ends : List ℕ
 
+-- The spans of six lists.
 abbrev pub spansOf : List ℕ → List ℕ → List ℕ → List ℕ → List ℕ → List ℕ → Spans
 spansOf offsets sizes addrs files starts ends =
     record { offsets = offsets; sizes = sizes; addrs = addrs; files = files; starts = starts; ends = ends }
