@@ -1,3 +1,4 @@
 mod Cover
+pub mod Calls
 pub mod Conforms
 pub mod Rule

@@ -1,0 +1,58 @@
+-- The columns that are copied of records: one record more, all of them, and what the core finds in them.
+-- Assumes nothing.
+use mathlib.Core.Path.{_≡_, refl, sym, ap, _∙_}
+use mathlib.Core.List.{List, [], _∷_, map}
+use Prim.Native.Nat.{ℕ, zero, suc, _+_, _<_, _≤_, min}
+use native.Mathlib.Nat.{not-suc-le-zero, le-of-suc-le-suc}
+use native.Mathlib.Omega.{arith}
+use lib.ListN.{length, getD, take, set, length-replicate, length-take}
+use lib.Seq.{sets, length-sets, take-all, take-take}
+use Rattle.ordering.proofs.Lists.{map-length, sets-copied}
+use Rattle.spans.specs.declared.Offset.the-variants.{Absent}
+use Rattle.spans.specs.declared.Location.the-variants.{Nowhere}
+use Rattle.spans.specs.declared.Span.{Span}
+use Rattle.spans.specs.declared.Columns.{Columns}
+use Rattle.spans.specs.declared.ListingColumns.{ListingColumns}
+use Rattle.spans.specs.Spans.{offsetNumber, startNumber, endNumber, zeros, column, offsetsOf, sizesOf, addrsOf, filesOf, startsOf, endsOf, columnsOf, listingColumnsOf}
+
+-- The record that stands past the end of a list.
+abbrev pub no-span : Span
+no-span = record { offset = Absent; size = 0; addr = 0; «file_handle» = 0; location = Nowhere }
+
+pub zeros-length : length zeros ≡ 4097
+unfolding zeros
+zeros-length = length-replicate {A = ℕ} 4097 0
+
+pub copied-length : (w : Span → ℕ) (xs : List Span) (i : ℕ) → length (sets zeros 0 (take i (map w xs))) ≡ 4097
+copied-length w xs i = length-sets zeros 0 (take i (map w xs)) ∙ zeros-length
+
+-- The number of a record in a list.
+number-at : (w : Span → ℕ) (xs : List Span) (i : ℕ) → i < length xs → w (getD xs i no-span) ≡ getD (map w xs) i 0
+number-at w [] i l = absurd (not-suc-le-zero l)
+number-at w (x ∷ xs) zero l = refl
+number-at w (x ∷ xs) (suc i) l = number-at w xs i (le-of-suc-le-suc l)
+
+-- One record more is copied.
+pub copied : (w : Span → ℕ) (xs : List Span) (i : ℕ) → i < length xs
+    → set (sets zeros 0 (take i (map w xs))) i (w (getD xs i no-span)) ≡ sets zeros 0 (take (i + 1) (map w xs))
+copied w xs i l = ap (set (sets zeros 0 (take i (map w xs))) i) (number-at w xs i l) ∙ sets-copied zeros (map w xs) i (omega (arith, map-length w xs))
+
+-- The first so many, where no more are there than so many.
+take-count : (l : List ℕ) (m n : ℕ) → m ≡ length l → take (min m n) l ≡ take n l
+take-count l m n e = sym (take-take (min m n) n l (omega arith)) ∙ take-all (min m n) (take n l) (omega (arith, length-take n l))
+
+-- All are copied.
+all-copied : (w : Span → ℕ) (xs : List Span) → sets zeros 0 (take (min (length xs) 4097) (map w xs)) ≡ column (map w xs)
+unfolding column
+all-copied w xs = ap (sets zeros 0) (take-count (map w xs) (length xs) 4097 (sym (map-length w xs)))
+
+pub columns-is : (xs : List Span)
+    → record { offsets = sets zeros 0 (take (min (length xs) 4097) (offsetsOf xs)); sizes = sets zeros 0 (take (min (length xs) 4097) (sizesOf xs)); count = min (length xs) 4097 } ≡ columnsOf xs
+unfolding columnsOf
+columns-is xs = rw (all-copied (λ s. offsetNumber (s .offset)) xs, all-copied (λ s. s .size) xs) refl
+
+pub listing-columns-is : (xs : List Span)
+    → record { addrs = sets zeros 0 (take (min (length xs) 4097) (addrsOf xs)); files = sets zeros 0 (take (min (length xs) 4097) (filesOf xs)); starts = sets zeros 0 (take (min (length xs) 4097) (startsOf xs)); ends = sets zeros 0 (take (min (length xs) 4097) (endsOf xs)) } ≡ listingColumnsOf xs
+unfolding listingColumnsOf
+listing-columns-is xs =
+    rw (all-copied (λ s. s .addr) xs, all-copied (λ s. s .«file_handle») xs, all-copied (λ s. startNumber (s .location)) xs, all-copied (λ s. endNumber (s .location)) xs) refl

@@ -1,0 +1,61 @@
+-- The span record as the numbers of the core (document 01, "What an exporter is lent"; the Rust's `BitVecSpan`), and what is copied of a slice
+-- of records.
+use mathlib.Core.List.{List, map}
+use Prim.Native.Nat.{ℕ, min}
+use lib.ListN.{length, take, replicate}
+use lib.Seq.{sets}
+use Rattle.ordering.specs.Order.{absent}
+use Rattle.spans.specs.declared.Offset.{Offset}
+use Rattle.spans.specs.declared.Offset.the-variants.{At, Absent}
+use Rattle.spans.specs.declared.Location.{Location}
+use Rattle.spans.specs.declared.Location.the-variants.{In, Nowhere}
+use Rattle.spans.specs.declared.Span.{Span}
+use Rattle.spans.specs.declared.Columns.{Columns}
+use Rattle.spans.specs.declared.ListingColumns.{ListingColumns}
+
+-- A present offset is its own number, but for the one that says absent: it is too large, as the number below it is.
+abbrev pub offsetNumber : Offset → ℕ
+offsetNumber (At bits) = min bits 4294967294
+offsetNumber Absent = absent
+
+-- No location is the Rust's: the largest number.
+abbrev pub startNumber : Location → ℕ
+startNumber (In start end) = start
+startNumber Nowhere = 18446744073709551615
+
+abbrev pub endNumber : Location → ℕ
+endNumber (In start end) = end
+endNumber Nowhere = 18446744073709551615
+
+-- The numbers of a span list, read off its records.
+abbrev pub offsetsOf : List Span → List ℕ
+offsetsOf spans = map (λ s. offsetNumber (s .offset)) spans
+
+abbrev pub sizesOf : List Span → List ℕ
+sizesOf spans = map (λ s. s .size) spans
+
+abbrev pub addrsOf : List Span → List ℕ
+addrsOf spans = map (λ s. s .addr) spans
+
+abbrev pub filesOf : List Span → List ℕ
+filesOf spans = map (λ s. s .«file_handle») spans
+
+abbrev pub startsOf : List Span → List ℕ
+startsOf spans = map (λ s. startNumber (s .location)) spans
+
+abbrev pub endsOf : List Span → List ℕ
+endsOf spans = map (λ s. endNumber (s .location)) spans
+
+-- The first 4,097 numbers of a list at the front of an array of zeros.
+unfoldable pub zeros : List ℕ
+zeros = replicate 4097 0
+
+unfoldable pub column : List ℕ → List ℕ
+column numbers = sets zeros 0 (take 4097 numbers)
+
+-- What is copied of records for the blocks, and what the listing needs besides.
+unfoldable pub columnsOf : List Span → Columns
+columnsOf spans = record { offsets = column (offsetsOf spans); sizes = column (sizesOf spans); count = min (length spans) 4097 }
+
+unfoldable pub listingColumnsOf : List Span → ListingColumns
+listingColumnsOf spans = record { addrs = column (addrsOf spans); files = column (filesOf spans); starts = column (startsOf spans); ends = column (endsOf spans) }
