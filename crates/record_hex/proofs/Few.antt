@@ -17,16 +17,7 @@ use Rattle.intelhex.specs.TwoImages.{Agree, SameAnswers}
 use Rattle.intelhex.proofs.Calls.{calls-rule}
 use Rattle.spans.specs.declared.Span.{Span}
 use Rattle.spans.specs.Spans.{offsetNumber, offsetsOf, sizesOf, columnsOf}
-use Rattle.spans.proofs.Few.{front, checked-few}
-
--- The columns' fronts.
-offsets-front : (xs : List Span) → take (columnsOf xs .count) (columnsOf xs .offsets) ≡ take 4097 (offsetsOf xs)
-unfolding columnsOf
-offsets-front xs = front (offsetsOf xs) (length xs) (sym (map-length (λ s. offsetNumber (s .offset)) xs))
-
-sizes-front : (xs : List Span) → take (columnsOf xs .count) (columnsOf xs .sizes) ≡ take 4097 (sizesOf xs)
-unfolding columnsOf
-sizes-front xs = front (sizesOf xs) (length xs) (sym (map-length (λ s. s .size) xs))
+use Rattle.spans.proofs.Few.{offsets-front, sizes-front, checked-few}
 
 one-length : (xs : List Span) → length (offsetsOf xs) ≡ length (sizesOf xs)
 one-length xs = map-length (λ s. offsetNumber (s .offset)) xs ∙ sym (map-length (λ s. s .size) xs)
