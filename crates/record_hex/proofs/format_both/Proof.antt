@@ -166,8 +166,8 @@ module _ {M : Type 1} (𝓤 : URA M) (H : Heap 𝓤) (A : Atoms 𝓤) (W : Given
   goes-work : (v-columns : Val) (g-bits : x-bits < 2 ^ 64) (g-bits2 : x-bits2 < 2 ^ 64) (g-unit : x-unit < 2 ^ 64) → ent 𝓤 (⋆ 𝓤 H A (‵ (Own-first) ∷ ‵ (Own-second) ∷ ‵ (Own-out) ∷ ‵ (Own-out2) ∷ ‵ (C.the-row .own (columnsOf (x-spans .now)) (v-columns ∷ [])) ∷ ‵ (flft κ₀ q₀) ∷ ‵ (flft κ₁ q₁) ∷ ‵ (flft κ₃ q₃) ∷ ‵ (flft κ₄ q₄) ∷ [])) (K-work 𝓤 H A W mem run .pre (to-work v-columns))
   goes-work v-columns g-bits g-bits2 g-unit =
       qed W (‵ (Own-first) ∷ ‵ (Own-second) ∷ ‵ (Own-out) ∷ ‵ (Own-out2) ∷ ‵ (C.the-row .own (columnsOf (x-spans .now)) (v-columns ∷ [])) ∷ ‵ (flft κ₀ q₀) ∷ ‵ (flft κ₁ q₁) ∷ ‵ (flft κ₃ q₃) ∷ ‵ (flft κ₄ q₄) ∷ []) ∵ says ! (columns-room (x-spans .now)) $
-      nothing ! $ move ! (9 ∷ 0 ∷ []) $ join ! $ move ! (8 ∷ 0 ∷ []) $ join ! $ move ! (7 ∷ 0 ∷ []) $ join ! $ move ! (6 ∷ 0 ∷ []) $ join ! $ frame ! $
-      nothing ! $ move ! (4 ∷ 0 ∷ []) $ fjoin ! $ move ! (3 ∷ 0 ∷ []) $ fjoin ! $ owned ! usize (Is usize) (uint-makes 𝓤 H A W w64) x-unit (v-unit ∷ []) (refl, g-unit) $ fjoin ! $ move ! (3 ∷ 0 ∷ []) $ fjoin ! $ owned ! usize (Is usize) (uint-makes 𝓤 H A W w64) x-bits2 (v-bits2 ∷ []) (refl, g-bits2) $ fjoin ! $ move ! (2 ∷ 0 ∷ []) $ fjoin ! $ owned ! usize (Is usize) (uint-makes 𝓤 H A W w64) x-bits (v-bits ∷ []) (refl, g-bits) $ fjoin ! $ move ! (1 ∷ 0 ∷ []) $ fjoin ! $ done !
+      nothing ! $ move ! (4 ∷ 0 ∷ []) $ fjoin ! $ move ! (3 ∷ 0 ∷ []) $ fjoin ! $ owned ! usize (Is usize) (uint-makes 𝓤 H A W w64) x-unit (v-unit ∷ []) (refl, g-unit) $ fjoin ! $ move ! (3 ∷ 0 ∷ []) $ fjoin ! $ owned ! usize (Is usize) (uint-makes 𝓤 H A W w64) x-bits2 (v-bits2 ∷ []) (refl, g-bits2) $ fjoin ! $ move ! (2 ∷ 0 ∷ []) $ fjoin ! $ owned ! usize (Is usize) (uint-makes 𝓤 H A W w64) x-bits (v-bits ∷ []) (refl, g-bits) $ fjoin ! $ move ! (1 ∷ 0 ∷ []) $ fjoin ! $
+      nothing ! $ move ! (5 ∷ 0 ∷ []) $ join ! $ move ! (4 ∷ 0 ∷ []) $ join ! $ move ! (3 ∷ 0 ∷ []) $ join ! $ move ! (2 ∷ 0 ∷ []) $ join ! $ frame ! $ done !
 
   walk : Room u8 (length (x-first .now)) → x-bits < 2 ^ 64 → Room u8 (length (x-second .now)) → x-bits2 < 2 ^ 64 → Room T.the-row (length (x-spans .now)) → x-unit < 2 ^ 64 → Room u8 (length (x-out .now)) → Room u8 (length (x-out2 .now)) → (𝓣 : Tables 𝓤 H) → Triple 𝓤 (𝓣 .C #columns) (K-columns 𝓤 H A W mem run) → Triple 𝓤 (𝓣 .C #work) (K-work 𝓤 H A W mem run) → ent 𝓤 (onEntry 𝓤 H A it.signature (κ₀, (κ₁, (κ₂, (κ₃, (κ₄, tt))))) (q₀, (q₁, (q₂, (q₃, (q₄, tt))))) args at) (WpFn 𝓤 H (𝓣 .C) (𝓣 .Λ) code.function (v-first ∷ v-bits ∷ v-second ∷ v-bits2 ∷ v-spans ∷ v-unit ∷ v-out ∷ v-out2 ∷ []) Post)
   walk g-first g-bits g-second g-bits2 g-spans g-unit g-out g-out2 𝓣 known-columns known-work =

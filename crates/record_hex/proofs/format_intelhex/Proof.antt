@@ -148,8 +148,8 @@ module _ {M : Type 1} (𝓤 : URA M) (H : Heap 𝓤) (A : Atoms 𝓤) (W : Given
   goes-work : (v-columns : Val) (g-bits : x-bits < 2 ^ 64) (g-address-unit : x-address-unit < 2 ^ 64) → ent 𝓤 (⋆ 𝓤 H A (‵ (Own-image) ∷ ‵ (Own-out) ∷ ‵ (C.the-row .own (columnsOf (x-spans .now)) (v-columns ∷ [])) ∷ ‵ (flft κ₀ q₀) ∷ ‵ (flft κ₂ q₂) ∷ [])) (K-work 𝓤 H A W mem run .pre (to-work v-columns))
   goes-work v-columns g-bits g-address-unit =
       qed W (‵ (Own-image) ∷ ‵ (Own-out) ∷ ‵ (C.the-row .own (columnsOf (x-spans .now)) (v-columns ∷ [])) ∷ ‵ (flft κ₀ q₀) ∷ ‵ (flft κ₂ q₂) ∷ []) ∵ says ! (columns-room (x-spans .now)) $
-      nothing ! $ move ! (5 ∷ 0 ∷ []) $ join ! $ move ! (4 ∷ 0 ∷ []) $ join ! $ frame ! $
-      nothing ! $ move ! (2 ∷ 0 ∷ []) $ fjoin ! $ owned ! usize (Is usize) (uint-makes 𝓤 H A W w64) x-address-unit (v-address-unit ∷ []) (refl, g-address-unit) $ fjoin ! $ move ! (2 ∷ 0 ∷ []) $ fjoin ! $ owned ! usize (Is usize) (uint-makes 𝓤 H A W w64) x-bits (v-bits ∷ []) (refl, g-bits) $ fjoin ! $ move ! (1 ∷ 0 ∷ []) $ fjoin ! $ done !
+      nothing ! $ move ! (2 ∷ 0 ∷ []) $ fjoin ! $ owned ! usize (Is usize) (uint-makes 𝓤 H A W w64) x-address-unit (v-address-unit ∷ []) (refl, g-address-unit) $ fjoin ! $ move ! (2 ∷ 0 ∷ []) $ fjoin ! $ owned ! usize (Is usize) (uint-makes 𝓤 H A W w64) x-bits (v-bits ∷ []) (refl, g-bits) $ fjoin ! $ move ! (1 ∷ 0 ∷ []) $ fjoin ! $
+      nothing ! $ move ! (3 ∷ 0 ∷ []) $ join ! $ move ! (2 ∷ 0 ∷ []) $ join ! $ frame ! $ done !
 
   walk : Room u8 (length (x-image .now)) → x-bits < 2 ^ 64 → Room T.the-row (length (x-spans .now)) → x-address-unit < 2 ^ 64 → Room u8 (length (x-out .now)) → (𝓣 : Tables 𝓤 H) → Triple 𝓤 (𝓣 .C #columns) (K-columns 𝓤 H A W mem run) → Triple 𝓤 (𝓣 .C #work) (K-work 𝓤 H A W mem run) → ent 𝓤 (onEntry 𝓤 H A it.signature (κ₀, (κ₁, (κ₂, tt))) (q₀, (q₁, (q₂, tt))) args at) (WpFn 𝓤 H (𝓣 .C) (𝓣 .Λ) code.function (v-image ∷ v-bits ∷ v-spans ∷ v-address-unit ∷ v-out ∷ []) Post)
   walk g-image g-bits g-spans g-address-unit g-out 𝓣 known-columns known-work =

@@ -140,8 +140,8 @@ module _ {M : Type 1} (𝓤 : URA M) (H : Heap 𝓤) (A : Atoms 𝓤) (W : Given
   goes-work : (v-columns : Val) → ent 𝓤 (⋆ 𝓤 H A (‵ (Own-block-offsets) ∷ ‵ (Own-block-sizes) ∷ ‵ (C.the-row .own (columnsOf (x-spans .now)) (v-columns ∷ [])) ∷ ‵ (flft κ₁ q₁) ∷ ‵ (flft κ₂ q₂) ∷ [])) (K-work 𝓤 H A W mem run .pre (to-work v-columns))
   goes-work v-columns =
       qed W (‵ (Own-block-offsets) ∷ ‵ (Own-block-sizes) ∷ ‵ (C.the-row .own (columnsOf (x-spans .now)) (v-columns ∷ [])) ∷ ‵ (flft κ₁ q₁) ∷ ‵ (flft κ₂ q₂) ∷ []) ∵ says ! (columns-room (x-spans .now)) $
-      nothing ! $ move ! (5 ∷ 0 ∷ []) $ join ! $ move ! (4 ∷ 0 ∷ []) $ join ! $ frame ! $
-      nothing ! $ move ! (2 ∷ 0 ∷ []) $ fjoin ! $ move ! (1 ∷ 0 ∷ []) $ fjoin ! $ move ! (1 ∷ 0 ∷ []) $ fjoin ! $ done !
+      nothing ! $ move ! (2 ∷ 0 ∷ []) $ fjoin ! $ move ! (1 ∷ 0 ∷ []) $ fjoin ! $ move ! (1 ∷ 0 ∷ []) $ fjoin ! $
+      nothing ! $ move ! (3 ∷ 0 ∷ []) $ join ! $ move ! (2 ∷ 0 ∷ []) $ join ! $ frame ! $ done !
 
   walk : Room T.the-row (length (x-spans .now)) → Room u32 (length (x-block-offsets .now)) → Room u32 (length (x-block-sizes .now)) → (𝓣 : Tables 𝓤 H) → Triple 𝓤 (𝓣 .C #columns) (K-columns 𝓤 H A W mem run) → Triple 𝓤 (𝓣 .C #work) (K-work 𝓤 H A W mem run) → ent 𝓤 (onEntry 𝓤 H A it.signature (κ₀, (κ₁, (κ₂, tt))) (q₀, (q₁, (q₂, tt))) args at) (WpFn 𝓤 H (𝓣 .C) (𝓣 .Λ) code.function (v-spans ∷ v-block-offsets ∷ v-block-sizes ∷ []) Post)
   walk g-spans g-block-offsets g-block-sizes 𝓣 known-columns known-work =

@@ -184,8 +184,8 @@ module _ {M : Type 1} (𝓤 : URA M) (H : Heap 𝓤) (A : Atoms 𝓤) (W : Given
   goes-work : (v-columns : Val) (v-others : Val) (g-bits : x-bits < 2 ^ 64) (g-options : Is F.the-row x-options (v-options ∷ [])) → ent 𝓤 (⋆ 𝓤 H A (‵ (Own-image) ∷ ‵ (Own-firmware) ∷ ‵ (Own-protocol) ∷ ‵ (Own-out) ∷ ‵ (C.the-row .own (columnsOf (x-spans .now)) (v-columns ∷ [])) ∷ ‵ (D.the-row .own (listingColumnsOf (x-spans .now)) (v-others ∷ [])) ∷ ‵ (flft κ₀ q₀) ∷ ‵ (flft κ₂ q₂) ∷ ‵ (flft κ₃ q₃) ∷ [])) (K-work 𝓤 H A W mem run .pre (to-work v-columns v-others))
   goes-work v-columns v-others g-bits g-options =
       qed W (‵ (Own-image) ∷ ‵ (Own-firmware) ∷ ‵ (Own-protocol) ∷ ‵ (Own-out) ∷ ‵ (C.the-row .own (columnsOf (x-spans .now)) (v-columns ∷ [])) ∷ ‵ (D.the-row .own (listingColumnsOf (x-spans .now)) (v-others ∷ [])) ∷ ‵ (flft κ₀ q₀) ∷ ‵ (flft κ₂ q₂) ∷ ‵ (flft κ₃ q₃) ∷ []) ∵ says ! (all-room (x-spans .now)) $
-      nothing ! $ move ! (9 ∷ 0 ∷ []) $ join ! $ move ! (8 ∷ 0 ∷ []) $ join ! $ move ! (7 ∷ 0 ∷ []) $ join ! $ frame ! $
-      nothing ! $ move ! (4 ∷ 0 ∷ []) $ fjoin ! $ owned ! F.the-row (Is F.the-row) (LL.makes F.the-type F′.the-plain 𝓤 H A) x-options (v-options ∷ []) g-options $ fjoin ! $ move ! (3 ∷ 0 ∷ []) $ fjoin ! $ move ! (2 ∷ 0 ∷ []) $ fjoin ! $ move ! (3 ∷ 0 ∷ []) $ fjoin ! $ move ! (2 ∷ 0 ∷ []) $ fjoin ! $ owned ! usize (Is usize) (uint-makes 𝓤 H A W w64) x-bits (v-bits ∷ []) (refl, g-bits) $ fjoin ! $ move ! (1 ∷ 0 ∷ []) $ fjoin ! $ done !
+      nothing ! $ move ! (4 ∷ 0 ∷ []) $ fjoin ! $ owned ! F.the-row (Is F.the-row) (LL.makes F.the-type F′.the-plain 𝓤 H A) x-options (v-options ∷ []) g-options $ fjoin ! $ move ! (3 ∷ 0 ∷ []) $ fjoin ! $ move ! (2 ∷ 0 ∷ []) $ fjoin ! $ move ! (3 ∷ 0 ∷ []) $ fjoin ! $ move ! (2 ∷ 0 ∷ []) $ fjoin ! $ owned ! usize (Is usize) (uint-makes 𝓤 H A W w64) x-bits (v-bits ∷ []) (refl, g-bits) $ fjoin ! $ move ! (1 ∷ 0 ∷ []) $ fjoin ! $
+      nothing ! $ move ! (4 ∷ 0 ∷ []) $ join ! $ move ! (3 ∷ 0 ∷ []) $ join ! $ move ! (2 ∷ 0 ∷ []) $ join ! $ frame ! $ done !
 
   walk : Room u8 (length (x-image .now)) → x-bits < 2 ^ 64 → Room T.the-row (length (x-spans .now)) → Room u8 (length (x-firmware .now)) → Room u8 (length (x-protocol .now)) → Is F.the-row x-options (v-options ∷ []) → Room u8 (length (x-out .now)) → (𝓣 : Tables 𝓤 H) → Triple 𝓤 (𝓣 .C #columns) (K-columns 𝓤 H A W mem run) → Triple 𝓤 (𝓣 .C #others) (K-others 𝓤 H A W mem run) → Triple 𝓤 (𝓣 .C #work) (K-work 𝓤 H A W mem run) → ent 𝓤 (onEntry 𝓤 H A it.signature (κ₀, (κ₁, (κ₂, (κ₃, tt)))) (q₀, (q₁, (q₂, (q₃, tt)))) args at) (WpFn 𝓤 H (𝓣 .C) (𝓣 .Λ) code.function (v-image ∷ v-bits ∷ v-spans ∷ v-firmware ∷ v-protocol ∷ v-options ∷ v-out ∷ []) Post)
   walk g-image g-bits g-spans g-firmware g-protocol g-options g-out 𝓣 known-columns known-others known-work =
