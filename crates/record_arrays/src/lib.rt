@@ -1,4 +1,4 @@
-// The functions over a slice of span records, for a program that has its records in an array of 32 by
+// The functions over a slice of span records, for a program that has its records in an array by
 // value: the first `count` of them are lent.
 use blocks::Blocks;
 use listing::FormatAnnotatedOptions;
@@ -15,12 +15,12 @@ ghost use Rattle.record_listing.specs.Records.{recordSpans};
 
 // `record_hex::get_blocks`.
 pub fn get_blocks(
-    spans: [Span; 32],
+    spans: [Span; 4098],
     count: usize,
     block_offsets: &mut [u32],
     block_sizes: &mut [u32],
 ) -> Blocks
-    requires { ⌜ count ≤ 32 ⌝ }
+    requires { ⌜ count ≤ 4098 ⌝ }
     ensures { λ r. ⌜ Finds (blocksFound (offsetsOf (take count spans)) (sizesOf (take count spans)) (length (now («block_offsets» .entry))) (length (now («block_sizes» .entry)))) r (now («block_offsets» .entry)) (now («block_offsets» .exit)) (now («block_sizes» .entry)) (now («block_sizes» .exit)) ⌝ }
 {
     record_hex::get_blocks(&spans[..count], block_offsets, block_sizes)
@@ -30,12 +30,12 @@ pub fn get_blocks(
 pub fn format_intelhex(
     image: &[u8],
     bits: usize,
-    spans: [Span; 32],
+    spans: [Span; 4098],
     count: usize,
     address_unit: usize,
     out: &mut [u8],
 ) -> Export
-    requires { ⌜ count ≤ 32 ⌝ }
+    requires { ⌜ count ≤ 4098 ⌝ }
     ensures { λ r. ⌜ Exports (hexOutcome (now (image .entry)) bits (offsetsOf (take count spans)) (sizesOf (take count spans)) «address_unit» (length (now (out .entry)))) r (now (out .entry)) (now (out .exit)) ⌝ }
 {
     record_hex::format_intelhex(image, bits, &spans[..count], address_unit, out)
@@ -45,14 +45,14 @@ pub fn format_intelhex(
 pub fn format_annotated<'a>(
     image: &[u8],
     bits: usize,
-    spans: [Span; 32],
+    spans: [Span; 4098],
     count: usize,
     firmware: &'a [u8],
     protocol: &'a [u8],
     options: FormatAnnotatedOptions,
     out: &mut [u8],
 ) -> Export
-    requires { ⌜ count ≤ 32 ⌝ }
+    requires { ⌜ count ≤ 4098 ⌝ }
     ensures { λ r. ⌜ Exports (annotatedOutcome (now (image .entry)) bits options (recordSpans (take count spans)) (now (firmware .entry)) (now (protocol .entry)) (length (now (out .entry)))) r (now (out .entry)) (now (out .exit)) ⌝ }
 {
     record_listing::format_annotated(

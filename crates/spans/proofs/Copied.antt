@@ -27,7 +27,7 @@ pub copied-length : (w : Span → ℕ) (xs : List Span) (i : ℕ) → length (se
 copied-length w xs i = length-sets zeros 0 (take i (map w xs)) ∙ zeros-length
 
 -- The number of a record in a list.
-number-at : (w : Span → ℕ) (xs : List Span) (i : ℕ) → i < length xs → w (getD xs i no-span) ≡ getD (map w xs) i 0
+pub number-at : (w : Span → ℕ) (xs : List Span) (i : ℕ) → i < length xs → w (getD xs i no-span) ≡ getD (map w xs) i 0
 number-at w [] i l = absurd (not-suc-le-zero l)
 number-at w (x ∷ xs) zero l = refl
 number-at w (x ∷ xs) (suc i) l = number-at w xs i (le-of-suc-le-suc l)

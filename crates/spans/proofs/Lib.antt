@@ -1,3 +1,4 @@
 pub mod Copied
 pub mod Few
 pub mod Local
+pub mod Meaning

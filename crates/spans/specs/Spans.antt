@@ -1,9 +1,12 @@
 -- The span record as the numbers of the core (document 01, "What an exporter is lent"; the Rust's `BitVecSpan`), and what is copied of a slice
 -- of records.
+use mathlib.Core.Bool.{Bool, false, cond}
 use mathlib.Core.List.{List, map}
-use Prim.Native.Nat.{ℕ, min}
+use Prim.Native.Nat.{ℕ, _+_, min}
+use lib.Dec.{eqb, ltb}
 use lib.ListN.{length, take, replicate}
 use lib.Seq.{sets}
+use Rattle.bitvec.specs.Size.{maxBits}
 use Rattle.ordering.specs.Order.{absent}
 use Rattle.spans.specs.declared.Offset.{Offset}
 use Rattle.spans.specs.declared.Offset.the-variants.{At, Absent}
@@ -26,6 +29,18 @@ startNumber Nowhere = 18446744073709551615
 abbrev pub endNumber : Location → ℕ
 endNumber (In start end) = end
 endNumber Nowhere = 18446744073709551615
+
+-- The other way: the offset and the location that the core's numbers stand for.
+unfoldable pub offsetFrom : ℕ → Offset
+offsetFrom number = cond (eqb number absent) Absent (At number)
+
+unfoldable pub locationFrom : ℕ → ℕ → Location
+locationFrom start end = cond (eqb start 18446744073709551615) Nowhere (In start end)
+
+-- The cause of refusal 3 in one record: a present offset plus size above 16,777,216 (proofs/Meaning: it is the core's, of these numbers).
+unfoldable pub endsPast : Offset → ℕ → Bool
+endsPast (At bits) size = ltb maxBits (bits + size)
+endsPast Absent size = false
 
 -- The numbers of a span list, read off its records.
 abbrev pub offsetsOf : List Span → List ℕ

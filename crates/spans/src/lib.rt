@@ -3,8 +3,11 @@
 ghost use mathlib.Core.Path.{_≡_};
 ghost use Prim.Native.Nat.{min};
 ghost use lib.ListN.{length};
-ghost use Rattle.spans.specs.Spans.{offsetNumber, startNumber, endNumber, columnsOf, listingColumnsOf};
+ghost use Rattle.spans.specs.Spans.{offsetNumber, startNumber, endNumber, offsetFrom, locationFrom, columnsOf, listingColumnsOf};
 use ordering::ABSENT;
+
+// The start and the end of no location, as in the Rust.
+const NO_LOCATION: u64 = 18446744073709551615;
 
 // An offset in bits, or none.
 pub enum Offset {
@@ -48,7 +51,49 @@ fn present(offset: u32) -> u32
     offset
 }
 
+// The offset that a number of the core stands for.
+fn offset_of(number: u32) -> Offset
+    ensures { λ r. ⌜ r ≡ offsetFrom number ⌝ }
+{
+    if number == ABSENT {
+        return Offset::Absent;
+    }
+    Offset::At(number)
+}
+
+// The location that two numbers of the core stand for.
+fn location_of(start: u64, end: u64) -> Location
+    ensures { λ r. ⌜ r ≡ locationFrom start end ⌝ }
+{
+    if start == NO_LOCATION {
+        return Location::Nowhere;
+    }
+    Location::In(start, end)
+}
+
 impl Span {
+    // The record of the core's numbers.
+    pub fn new(
+        offset: u32,
+        size: u32,
+        addr: u64,
+        file_handle: u8,
+        start: u64,
+        end: u64,
+    ) -> Span
+        ensures { λ r. ⌜ r ≡ record { offset = offsetFrom offset; size = size; addr = addr; «file_handle» = «file_handle»; location = locationFrom start end } ⌝ }
+    {
+        let offset = offset_of(offset);
+        let location = location_of(start, end);
+        Span {
+            offset,
+            size,
+            addr,
+            file_handle,
+            location,
+        }
+    }
+
     // The offset as the core's number.
     pub fn offset_number(self) -> u32
         ensures { λ r. ⌜ r ≡ offsetNumber (self .offset) ⌝ }
@@ -67,7 +112,7 @@ impl Span {
         let location = self.location;
         match location {
             Location::In(start, _) => start,
-            Location::Nowhere => 18446744073709551615,
+            Location::Nowhere => NO_LOCATION,
         }
     }
 
@@ -78,7 +123,7 @@ impl Span {
         let location = self.location;
         match location {
             Location::In(_, end) => end,
-            Location::Nowhere => 18446744073709551615,
+            Location::Nowhere => NO_LOCATION,
         }
     }
 }

@@ -74,7 +74,7 @@ module _ {M : Type 1} (𝓤 : URA M) (H : Heap 𝓤) (A : Atoms 𝓤) (W : Given
   K-work = tripleOf 𝓤 H A work.signature (work.spec 𝓤 H A mem run)
 
 abbrev stayed : Stays (it.ended .signature .params) (it.ended .kept)
-stayed = (stay-none-slice (0 ∷ []) tt (plain (λ _. u8)) yes, (stay-none (λ _. usize) yes, (stay-none (λ _. Array T.the-row 32) yes, (stay-none (λ _. usize) yes, (stay-none-slice (1 ∷ []) tt (plain (λ _. u8)) yes, (stay-none-slice (1 ∷ []) tt (plain (λ _. u8)) yes, (stay-none (λ _. F.the-row) yes, (gave-slice (2 ∷ []) tt (plain (λ _. u8)), tt))))))))
+stayed = (stay-none-slice (0 ∷ []) tt (plain (λ _. u8)) yes, (stay-none (λ _. usize) yes, (stay-none (λ _. Array T.the-row 4098) yes, (stay-none (λ _. usize) yes, (stay-none-slice (1 ∷ []) tt (plain (λ _. u8)) yes, (stay-none-slice (1 ∷ []) tt (plain (λ _. u8)) yes, (stay-none (λ _. F.the-row) yes, (gave-slice (2 ∷ []) tt (plain (λ _. u8)), tt))))))))
 
 module _ {M : Type 1} (𝓤 : URA M) (H : Heap 𝓤) (A : Atoms 𝓤) (W : Given 𝓤 H A) (mem : Memory → SProp 𝓤) (run : Routine → Fun 𝓤) (κ₀ κ₁ κ₂ : Lft) (q₀ q₁ q₂ : Share) (x-image : RefT (List ℕ)) (x-bits : ℕ) (x-spans : List Span) (x-count : ℕ) (x-firmware : RefT (List ℕ)) (x-protocol : RefT (List ℕ)) (x-options : FormatAnnotatedOptions) (x-out : RefT (List ℕ)) where
   abbrev v-image : Val
@@ -132,11 +132,11 @@ module _ {M : Type 1} (𝓤 : URA M) (H : Heap 𝓤) (A : Atoms 𝓤) (W : Given
   abbrev Ends : Export → Val → List ℕ → List (Item 𝓤)
   Ends r v ws-out = ‵ (flft κ₀ q₀) ∷ ‵ (flft κ₁ q₁) ∷ ‵ (flft κ₂ q₂) ∷ ‵ (Own-image) ∷ ‵ (Own-firmware) ∷ ‵ (Own-protocol) ∷ ‵ (finally u8 (x-out .name) ws-out) ∷ ‵ (O.the-row .own r (v ∷ [])) ∷ []
 
-  exits : (r : Export) (v : Val) (ws-out : List ℕ) → Exports (annotatedOutcome (x-image .now) x-bits x-options (recordSpans (take x-count x-spans)) (x-firmware .now) (x-protocol .now) (length (x-out .now))) r (x-out .now) ws-out → length ws-out ≡ length (x-out .now) → x-bits < 2 ^ 64 → Is (Array T.the-row 32) x-spans (v-spans ∷ []) → x-count < 2 ^ 64 → Is F.the-row x-options (v-options ∷ []) → ent 𝓤 (⋆ 𝓤 H A (Ends r v ws-out)) (Post v)
+  exits : (r : Export) (v : Val) (ws-out : List ℕ) → Exports (annotatedOutcome (x-image .now) x-bits x-options (recordSpans (take x-count x-spans)) (x-firmware .now) (x-protocol .now) (length (x-out .now))) r (x-out .now) ws-out → length ws-out ≡ length (x-out .now) → x-bits < 2 ^ 64 → Is (Array T.the-row 4098) x-spans (v-spans ∷ []) → x-count < 2 ^ 64 → Is F.the-row x-options (v-options ∷ []) → ent 𝓤 (⋆ 𝓤 H A (Ends r v ws-out)) (Post v)
   exits r v ws-out e len-out g-bits g-spans g-count g-options =
       qed W (Ends r v ws-out) ∵ suffices ! _ (ends-at 𝓤 H A it.ended stayed (it.clauses 𝓤 H A mem run) W bound v r (tt, (tt, (tt, (tt, (tt, (tt, (tt, (ws-out, tt)))))))) (tt, (tt, (tt, (tt, (tt, (tt, (tt, (len-out, tt))))))))) $ says ! e $
       nothing ! $ move ! (3 ∷ 0 ∷ []) $ join ! $ move ! (2 ∷ 0 ∷ []) $ join ! $ move ! (1 ∷ 0 ∷ []) $ join ! $ frame ! $
-      nothing ! $ move ! (4 ∷ 0 ∷ []) $ fjoin ! $ owned ! F.the-row (Is F.the-row) (LL.makes F.the-type F′.the-plain 𝓤 H A) x-options (v-options ∷ []) g-options $ fjoin ! $ move ! (3 ∷ 0 ∷ []) $ fjoin ! $ move ! (2 ∷ 0 ∷ []) $ fjoin ! $ owned ! usize (Is usize) (uint-makes 𝓤 H A W w64) x-count (v-count ∷ []) (refl, g-count) $ fjoin ! $ owned ! (Array T.the-row 32) (Is (Array T.the-row 32)) (array-makes 𝓤 H A W T.the-row (LL.makes T.the-type T′.the-plain 𝓤 H A) 32) x-spans (v-spans ∷ []) g-spans $ fjoin ! $ owned ! usize (Is usize) (uint-makes 𝓤 H A W w64) x-bits (v-bits ∷ []) (refl, g-bits) $ fjoin ! $ move ! (1 ∷ 0 ∷ []) $ fjoin ! $ frame ! $ done !
+      nothing ! $ move ! (4 ∷ 0 ∷ []) $ fjoin ! $ owned ! F.the-row (Is F.the-row) (LL.makes F.the-type F′.the-plain 𝓤 H A) x-options (v-options ∷ []) g-options $ fjoin ! $ move ! (3 ∷ 0 ∷ []) $ fjoin ! $ move ! (2 ∷ 0 ∷ []) $ fjoin ! $ owned ! usize (Is usize) (uint-makes 𝓤 H A W w64) x-count (v-count ∷ []) (refl, g-count) $ fjoin ! $ owned ! (Array T.the-row 4098) (Is (Array T.the-row 4098)) (array-makes 𝓤 H A W T.the-row (LL.makes T.the-type T′.the-plain 𝓤 H A) 4098) x-spans (v-spans ∷ []) g-spans $ fjoin ! $ owned ! usize (Is usize) (uint-makes 𝓤 H A W w64) x-bits (v-bits ∷ []) (refl, g-bits) $ fjoin ! $ move ! (1 ∷ 0 ∷ []) $ fjoin ! $ frame ! $ done !
 
   -- what is lent: the first records, from where the array lies
   abbrev first-spans : ℕ → GName → RefT (List Span)
@@ -158,21 +158,21 @@ module _ {M : Type 1} (𝓤 : URA M) (H : Heap 𝓤) (A : Atoms 𝓤) (W : Given
   abbrev to-work : ℕ → ℕ → GName → K-work 𝓤 H A W mem run .Ghost
   to-work α l γ = (((κ₀, (α ∷ [], (κ₁, (κ₂, tt)))), (q₀, (fullShare, (q₁, (q₂, tt)))), tt, work-args l γ, (v-image ∷ [], (v-bits ∷ [], (v-lent l ∷ [], (v-firmware ∷ [], (v-protocol ∷ [], (v-options ∷ [], (v-out ∷ [], tt)))))))), tt)
 
-  goes-work : (α l : ℕ) (γ : GName) (g-bits : x-bits < 2 ^ 64) (g-spans : Is (Array T.the-row 32) x-spans (v-spans ∷ [])) (g-count : x-count < 2 ^ 64) (g-options : Is F.the-row x-options (v-options ∷ [])) → ent 𝓤 (⋆ 𝓤 H A (‵ (Own-image) ∷ ‵ (Shr α l γ) ∷ ‵ (Own-firmware) ∷ ‵ (Own-protocol) ∷ ‵ (Own-out) ∷ ‵ (flft κ₀ q₀) ∷ ‵ (flft (α ∷ []) fullShare) ∷ ‵ (flft κ₁ q₁) ∷ ‵ (flft κ₂ q₂) ∷ [])) (K-work 𝓤 H A W mem run .pre (to-work α l γ))
+  goes-work : (α l : ℕ) (γ : GName) (g-bits : x-bits < 2 ^ 64) (g-spans : Is (Array T.the-row 4098) x-spans (v-spans ∷ [])) (g-count : x-count < 2 ^ 64) (g-options : Is F.the-row x-options (v-options ∷ [])) → ent 𝓤 (⋆ 𝓤 H A (‵ (Own-image) ∷ ‵ (Shr α l γ) ∷ ‵ (Own-firmware) ∷ ‵ (Own-protocol) ∷ ‵ (Own-out) ∷ ‵ (flft κ₀ q₀) ∷ ‵ (flft (α ∷ []) fullShare) ∷ ‵ (flft κ₁ q₁) ∷ ‵ (flft κ₂ q₂) ∷ [])) (K-work 𝓤 H A W mem run .pre (to-work α l γ))
   goes-work α l γ g-bits g-spans g-count g-options =
       qed W (‵ (Own-image) ∷ ‵ (Shr α l γ) ∷ ‵ (Own-firmware) ∷ ‵ (Own-protocol) ∷ ‵ (Own-out) ∷ ‵ (flft κ₀ q₀) ∷ ‵ (flft (α ∷ []) fullShare) ∷ ‵ (flft κ₁ q₁) ∷ ‵ (flft κ₂ q₂) ∷ []) ∵
       nothing ! $ move ! (5 ∷ 0 ∷ []) $ fjoin ! $ owned ! F.the-row (Is F.the-row) (LL.makes F.the-type F′.the-plain 𝓤 H A) x-options (v-options ∷ []) g-options $ fjoin ! $ move ! (4 ∷ 0 ∷ []) $ fjoin ! $ move ! (3 ∷ 0 ∷ []) $ fjoin ! $ move ! (2 ∷ 0 ∷ []) $ fjoin ! $ owned ! usize (Is usize) (uint-makes 𝓤 H A W w64) x-bits (v-bits ∷ []) (refl, g-bits) $ fjoin ! $ move ! (1 ∷ 0 ∷ []) $ fjoin ! $
       nothing ! $ move ! (5 ∷ 0 ∷ []) $ join ! $ move ! (4 ∷ 0 ∷ []) $ join ! $ move ! (3 ∷ 0 ∷ []) $ join ! $ move ! (2 ∷ 0 ∷ []) $ join ! $ join ! $ frame ! $ done !
 
-  walk : Room u8 (length (x-image .now)) → x-bits < 2 ^ 64 → Is (Array T.the-row 32) x-spans (v-spans ∷ []) → x-count < 2 ^ 64 → Room u8 (length (x-firmware .now)) → Room u8 (length (x-protocol .now)) → Is F.the-row x-options (v-options ∷ []) → Room u8 (length (x-out .now)) → x-count ≤ 32 → (𝓣 : Tables 𝓤 H) → Triple 𝓤 (𝓣 .C #work) (K-work 𝓤 H A W mem run) → ent 𝓤 (onEntry 𝓤 H A it.signature (κ₀, (κ₁, (κ₂, tt))) (q₀, (q₁, (q₂, tt))) args at) (WpFn 𝓤 H (𝓣 .C) (𝓣 .Λ) code.function (v-image ∷ v-bits ∷ v-spans ∷ v-count ∷ v-firmware ∷ v-protocol ∷ v-options ∷ v-out ∷ []) Post)
+  walk : Room u8 (length (x-image .now)) → x-bits < 2 ^ 64 → Is (Array T.the-row 4098) x-spans (v-spans ∷ []) → x-count < 2 ^ 64 → Room u8 (length (x-firmware .now)) → Room u8 (length (x-protocol .now)) → Is F.the-row x-options (v-options ∷ []) → Room u8 (length (x-out .now)) → x-count ≤ 4098 → (𝓣 : Tables 𝓤 H) → Triple 𝓤 (𝓣 .C #work) (K-work 𝓤 H A W mem run) → ent 𝓤 (onEntry 𝓤 H A it.signature (κ₀, (κ₁, (κ₂, tt))) (q₀, (q₁, (q₂, tt))) args at) (WpFn 𝓤 H (𝓣 .C) (𝓣 .Λ) code.function (v-image ∷ v-bits ∷ v-spans ∷ v-count ∷ v-firmware ∷ v-protocol ∷ v-options ∷ v-out ∷ []) Post)
   walk g-image g-bits g-spans g-count g-firmware g-protocol g-options g-out asked 𝓣 known-work =
-      qed W ((‵ (flft κ₀ q₀) ⊛ (‵ (flft κ₁ q₁) ⊛ (‵ (flft κ₂ q₂) ⊛ ‵ ftrue))) ∷ ‵ (owns (ShrSlice (named 0) κ₀ u8 ∷ usize ∷ Array T.the-row 32 ∷ usize ∷ ShrSlice (named 1) κ₁ u8 ∷ ShrSlice (named 1) κ₁ u8 ∷ F.the-row ∷ MutSlice (named 2) κ₂ u8 ∷ []) args at) ∷ []) ∵
+      qed W ((‵ (flft κ₀ q₀) ⊛ (‵ (flft κ₁ q₁) ⊛ (‵ (flft κ₂ q₂) ⊛ ‵ ftrue))) ∷ ‵ (owns (ShrSlice (named 0) κ₀ u8 ∷ usize ∷ Array T.the-row 4098 ∷ usize ∷ ShrSlice (named 1) κ₁ u8 ∷ ShrSlice (named 1) κ₁ u8 ∷ F.the-row ∷ MutSlice (named 2) κ₂ u8 ∷ []) args at) ∷ []) ∵
       enter ! (𝓣 .C) (𝓣 .Λ) code.function (v-image ∷ v-bits ∷ v-spans ∷ v-count ∷ v-firmware ∷ v-protocol ∷ v-options ∷ v-out ∷ []) _ $
       alloc1 ! (λ l₀. alloc1 ! (λ l₁. alloc1 ! (λ l₂. alloc1 ! (λ l₃. alloc1 ! (λ l₄. alloc1 ! (λ l₅. alloc1 ! (λ l₆. alloc1 ! (λ l₇. alloc1 ! (λ l₈. alloc1 ! (λ l₉. alloc1 ! (λ l₁₀. alloc1 ! (λ l₁₁. alloc1 ! (λ l₁₂. alloc1 ! (λ l₁₃. alloc0 ! $ params1 ! $
-      pass1 ! (init ! 24 refl (tt, (tt, (record { fits = g-image .0 }, tt)))) $ pass1 ! (init ! 22 refl (tt, record { fits = g-bits })) $ pass1 ! (init ! 20 refl (array-lawful 𝓤 H A W T.the-row (LL.lawful T.the-type T′.the-laws 𝓤 H A W) 32 .typed x-spans _ g-spans .0)) $ pass1 ! (init ! 18 refl (tt, record { fits = g-count })) $ pass1 ! (init ! 16 refl (tt, (tt, (record { fits = g-firmware .0 }, tt)))) $ pass1 ! (init ! 14 refl (tt, (tt, (record { fits = g-protocol .0 }, tt)))) $ pass1 ! (init ! 12 refl (LL.lawful F.the-type F′.the-laws 𝓤 H A W .typed x-options _ g-options .0)) $ pass1 ! (init ! 10 refl (tt, (tt, (record { fits = g-out .0 }, tt)))) $ pass0 ! $
+      pass1 ! (init ! 24 refl (tt, (tt, (record { fits = g-image .0 }, tt)))) $ pass1 ! (init ! 22 refl (tt, record { fits = g-bits })) $ pass1 ! (init ! 20 refl (array-lawful 𝓤 H A W T.the-row (LL.lawful T.the-type T′.the-laws 𝓤 H A W) 4098 .typed x-spans _ g-spans .0)) $ pass1 ! (init ! 18 refl (tt, record { fits = g-count })) $ pass1 ! (init ! 16 refl (tt, (tt, (record { fits = g-firmware .0 }, tt)))) $ pass1 ! (init ! 14 refl (tt, (tt, (record { fits = g-protocol .0 }, tt)))) $ pass1 ! (init ! 12 refl (LL.lawful F.the-type F′.the-laws 𝓤 H A W .typed x-options _ g-options .0)) $ pass1 ! (init ! 10 refl (tt, (tt, (record { fits = g-out .0 }, tt)))) $ pass0 ! $
       move ! (28 ∷ 29 ∷ []) $ split ! $ move ! (1 ∷ []) $ split ! $ move ! (1 ∷ []) $ split ! $ move ! (1 ∷ []) $ move ! (4 ∷ []) $ fsplit ! $ move ! (1 ∷ []) $ fsplit ! $ move ! (1 ∷ []) $ fsplit ! $ move ! (1 ∷ []) $ fsplit ! $ move ! (1 ∷ []) $ fsplit ! $ move ! (1 ∷ []) $ fsplit ! $ move ! (1 ∷ []) $ fsplit ! $ move ! (1 ∷ []) $ fsplit ! $ move ! (1 ∷ []) $
-      assigns ! (of-opd ! (load ! (from ! (stop !)) (look ! 33 refl))) (from ! (stop !)) (init ! 21 refl (array-lawful 𝓤 H A W T.the-row (LL.lawful T.the-type T′.the-laws 𝓤 H A W) 32 .typed x-spans _ g-spans .0)) $
-      move ! (21 ∷ 6 ∷ []) $ use2 W (‵ (arr-parts (shares T.the-row) 32 .part fullShare x-spans l₉ 0)) (local.fresh 𝓤 H A W T.the-row l₉ 0 tt 32 x-spans v-spans) $ fsplit ! $ feqL ! (λ len-spans.
+      assigns ! (of-opd ! (load ! (from ! (stop !)) (look ! 33 refl))) (from ! (stop !)) (init ! 21 refl (array-lawful 𝓤 H A W T.the-row (LL.lawful T.the-type T′.the-laws 𝓤 H A W) 4098 .typed x-spans _ g-spans .0)) $
+      move ! (21 ∷ 6 ∷ []) $ use2 W (‵ (arr-parts (shares T.the-row) 4098 .part fullShare x-spans l₉ 0)) (local.fresh 𝓤 H A W T.the-row l₉ 0 tt 4098 x-spans v-spans) $ fsplit ! $ feqL ! (λ len-spans.
       use1 W (‵ (row T.the-row fullShare (take x-count x-spans) l₉ 0) ⊛ ‵ (local.Others 𝓤 H A W T.the-row l₉ 0 x-count x-spans)) (local.cut 𝓤 H A W T.the-row l₉ 0 x-count x-spans) $ split ! $
       assigns ! (addr ! (from ! (stop !))) (from ! (stop !)) (init ! 20 refl (tt, tt)) $
       assigns ! (agg ! (and-then ! (load ! (from ! (stop !)) (look ! 20 refl)) (and-then ! (load ! (from ! (stop !)) (look ! 31 refl)) (no-more !)))) (from ! (stop !)) (init ! 18 refl (tt, (tt, (record { fits = g-count }, tt)))) $
@@ -182,7 +182,7 @@ module _ {M : Type 1} (𝓤 : URA M) (H : Heap 𝓤) (A : Atoms 𝓤) (W : Given
       move ! (9 ∷ []) $ use1 W (‵ Own-image ⊛ ‵ Own-image) (shr-slice-copy 𝓤 H A W (named 0) κ₀ u8 .twice x-image (v-image ∷ [])) $ split ! $
       move ! (8 ∷ []) $ use1 W (‵ Own-firmware ⊛ ‵ Own-firmware) (shr-slice-copy 𝓤 H A W (named 1) κ₁ u8 .twice x-firmware (v-firmware ∷ [])) $ split ! $
       move ! (9 ∷ []) $ use1 W (‵ Own-protocol ⊛ ‵ Own-protocol) (shr-slice-copy 𝓤 H A W (named 1) κ₁ u8 .twice x-protocol (v-protocol ∷ [])) $ split ! $
-      lft-new ! tt (λ α. move ! (7 ∷ []) $ use1 W (later (some (λ (γ : GName). ‵ (Shr α l₉ γ) ⊛ ‵ (flent (α ∷ []) (arr-parts (shares T.the-row) (length (take x-count x-spans)) .part fullShare (take x-count x-spans) l₉ 0))))) (local.show 𝓤 H A W T.the-row l₉ 0 (named 1) (α ∷ []) (take x-count x-spans) (room-take T.the-row 32 x-count x-spans len-spans (lit< tt, lit< tt))) $ await ! tt $ pick ! (λ γ. split ! $
+      lft-new ! tt (λ α. move ! (7 ∷ []) $ use1 W (later (some (λ (γ : GName). ‵ (Shr α l₉ γ) ⊛ ‵ (flent (α ∷ []) (arr-parts (shares T.the-row) (length (take x-count x-spans)) .part fullShare (take x-count x-spans) l₉ 0))))) (local.show 𝓤 H A W T.the-row l₉ 0 (named 1) (α ∷ []) (take x-count x-spans) (room-take T.the-row 4098 x-count x-spans len-spans (lit< tt, lit< tt))) $ await ! tt $ pick ! (λ γ. split ! $
       move ! (7 ∷ 0 ∷ 5 ∷ 3 ∷ 11 ∷ 18 ∷ 2 ∷ 17 ∷ 16 ∷ []) $ group ! 9 $ use1 W (raw (K-work 𝓤 H A W mem run .pre (to-work α l₉ γ))) (goes-work α l₉ γ g-bits g-spans g-count g-options) $
       calls-at ! (fmOf 𝓤 H (W .laws) 𝓣) (K-work 𝓤 H A W mem run) known-work (to-work α l₉ γ)
       (and-then ! (load ! (from ! (stop !)) (look ! 34 refl)) (and-then ! (load ! (from ! (stop !)) (look ! 32 refl)) (and-then ! (load ! (from ! (stop !)) (look ! 15 refl)) (and-then ! (load ! (from ! (stop !)) (look ! 26 refl)) (and-then ! (load ! (from ! (stop !)) (look ! 24 refl)) (and-then ! (load ! (from ! (stop !)) (look ! 22 refl)) (and-then ! (load ! (from ! (stop !)) (look ! 11 refl)) (no-more !)))))))) (λ v.
@@ -194,7 +194,7 @@ module _ {M : Type 1} (𝓤 : URA M) (H : Heap 𝓤) (A : Atoms 𝓤) (W : Given
       move ! (5 ∷ []) $ peeks ! O.the-row (Is O.the-row) (shows 𝓤 H A O.the-row) r (v ∷ []) (λ is. land ! (from ! (stop !)) (init ! 49 refl (EL.lawful O.the-type O′.the-laws 𝓤 H A W tt .typed r _ is .0)) $
       -- the array is whole again
       move ! (4 ∷ []) $ lft-end ! tt $ move ! (0 ∷ 14 ∷ []) $ lent-back ! tt $ fsplit ! $ drop ! $ move ! (0 ∷ 17 ∷ []) $ use2 W (‵ (row T.the-row fullShare x-spans l₉ 0)) (local.glue 𝓤 H A W T.the-row l₉ 0 x-count x-spans) $
-      use1 W (‵ (froom (tyArray T′.mir 32) l₉ 0)) (local.spare 𝓤 H A W T.the-row l₉ 0 32 x-spans len-spans) $
+      use1 W (‵ (froom (tyArray T′.mir 4098) l₉ 0)) (local.spare 𝓤 H A W T.the-row l₉ 0 4098 x-spans len-spans) $
       returns ! (look ! 47 refl) $ forget ! 47 refl $ forget ! 45 refl $ forget ! 43 refl $ forget ! 41 refl $ forget ! 39 refl $ forget ! 37 refl $ forget ! 35 refl $ forget ! 33 refl $ forget ! 31 refl $ forget ! 28 refl $ forget ! 26 refl $ forget ! 24 refl $ forget ! 22 refl $
       move ! (47 ∷ 48 ∷ 45 ∷ 46 ∷ 43 ∷ 44 ∷ 41 ∷ 42 ∷ 39 ∷ 40 ∷ 37 ∷ 38 ∷ 35 ∷ 36 ∷ 33 ∷ 34 ∷ 31 ∷ 32 ∷ 0 ∷ 30 ∷ 28 ∷ 29 ∷ 26 ∷ 27 ∷ 24 ∷ 25 ∷ 22 ∷ 23 ∷ []) $
       free1 ! $ free1 ! $ free1 ! $ free1 ! $ free1 ! $ free1 ! $ free1 ! $ free1 ! $ free1 ! $ free1 ! $ free1 ! $ free1 ! $ free1 ! $ free1 ! $ free0 ! $
@@ -203,12 +203,12 @@ module _ {M : Type 1} (𝓤 : URA M) (H : Heap 𝓤) (A : Atoms 𝓤) (W : Given
 module _ {M : Type 1} (𝓤 : URA M) (H : Heap 𝓤) (A : Atoms 𝓤) (W : Given 𝓤 H A) (mem : Memory → SProp 𝓤) (run : Routine → Fun 𝓤) (𝓣 : Tables 𝓤 H) (known-work : Triple 𝓤 (𝓣 .C #work) (K-work 𝓤 H A W mem run)) where
   walks : Walks 𝓤 H A it.ended stayed (WpFn 𝓤 H (𝓣 .C) (𝓣 .Λ) code.function) (it.clauses 𝓤 H A mem run)
   walks = walked 𝓤 H A it.ended stayed (it.clauses 𝓤 H A mem run) (WpFn 𝓤 H (𝓣 .C) (𝓣 .Λ) code.function) (λ κs. (slice-vals, (uint-vals w64, (array-vals (LL.vals T.the-type T′.the-laws), (uint-vals w64, (slice-vals, (slice-vals, (LL.vals F.the-type F′.the-laws, (slice-vals, tt)))))))))
-      (λ κs. (shr-slice-tells (named 0) (κs .0) u8, (uint-tells w64, (array-tells T.the-row (LL.vals T.the-type T′.the-laws) (LL.tells T.the-type T′.the-laws) 32, (uint-tells w64, (shr-slice-tells (named 1) (κs .1 .0) u8, (shr-slice-tells (named 1) (κs .1 .0) u8, (LL.tells F.the-type F′.the-laws, (mut-slice-tells (named 2) (κs .1 .1 .0) u8, tt)))))))))
-      (λ κs qs bounds a g are. needs 𝓤 ((a .1 .1 .1 .0) ≤ 32) _ (λ asked. walk 𝓤 H A W mem run (κs .0) (κs .1 .0) (κs .1 .1 .0) (qs .0) (qs .1 .0) (qs .1 .1 .0) (a .0) (a .1 .0) (a .1 .1 .0) (a .1 .1 .1 .0) (a .1 .1 .1 .1 .0) (a .1 .1 .1 .1 .1 .0) (a .1 .1 .1 .1 .1 .1 .0) (a .1 .1 .1 .1 .1 .1 .1 .0) (are .0 .0 .1) (are .1 .0 .1) (are .1 .1 .0) (are .1 .1 .1 .0 .1) (are .1 .1 .1 .1 .0 .0 .1) (are .1 .1 .1 .1 .1 .0 .0 .1) (are .1 .1 .1 .1 .1 .1 .0) (are .1 .1 .1 .1 .1 .1 .1 .0 .0 .1) asked 𝓣 known-work))
+      (λ κs. (shr-slice-tells (named 0) (κs .0) u8, (uint-tells w64, (array-tells T.the-row (LL.vals T.the-type T′.the-laws) (LL.tells T.the-type T′.the-laws) 4098, (uint-tells w64, (shr-slice-tells (named 1) (κs .1 .0) u8, (shr-slice-tells (named 1) (κs .1 .0) u8, (LL.tells F.the-type F′.the-laws, (mut-slice-tells (named 2) (κs .1 .1 .0) u8, tt)))))))))
+      (λ κs qs bounds a g are. needs 𝓤 ((a .1 .1 .1 .0) ≤ 4098) _ (λ asked. walk 𝓤 H A W mem run (κs .0) (κs .1 .0) (κs .1 .1 .0) (qs .0) (qs .1 .0) (qs .1 .1 .0) (a .0) (a .1 .0) (a .1 .1 .0) (a .1 .1 .1 .0) (a .1 .1 .1 .1 .0) (a .1 .1 .1 .1 .1 .0) (a .1 .1 .1 .1 .1 .1 .0) (a .1 .1 .1 .1 .1 .1 .1 .0) (are .0 .0 .1) (are .1 .0 .1) (are .1 .1 .0) (are .1 .1 .1 .0 .1) (are .1 .1 .1 .1 .0 .0 .1) (are .1 .1 .1 .1 .1 .0 .0 .1) (are .1 .1 .1 .1 .1 .1 .0) (are .1 .1 .1 .1 .1 .1 .1 .0 .0 .1) asked 𝓣 known-work))
 
   meets : Meets 𝓤 H A it.signature (WpFn 𝓤 H (𝓣 .C) (𝓣 .Λ) code.function) (it.spec 𝓤 H A mem run)
   meets = walk-meets 𝓤 H A it.ended stayed W
-      (goes-none-slice 𝓤 H A W 3 (0 ∷ []) tt (plain (λ _. u8)) yes, (goes-none 𝓤 H A W 3 (λ _. usize) yes (λ κs x f. refl), (goes-none 𝓤 H A W 3 (λ _. Array T.the-row 32) yes (λ κs x f. refl), (goes-none 𝓤 H A W 3 (λ _. usize) yes (λ κs x f. refl), (goes-none-slice 𝓤 H A W 3 (1 ∷ []) tt (plain (λ _. u8)) yes, (goes-none-slice 𝓤 H A W 3 (1 ∷ []) tt (plain (λ _. u8)) yes, (goes-none 𝓤 H A W 3 (λ _. F.the-row) yes (λ κs x f. refl), (goes-gave-slice 𝓤 H A W 3 2 tt (plain (λ _. u8)), tt))))))))
+      (goes-none-slice 𝓤 H A W 3 (0 ∷ []) tt (plain (λ _. u8)) yes, (goes-none 𝓤 H A W 3 (λ _. usize) yes (λ κs x f. refl), (goes-none 𝓤 H A W 3 (λ _. Array T.the-row 4098) yes (λ κs x f. refl), (goes-none 𝓤 H A W 3 (λ _. usize) yes (λ κs x f. refl), (goes-none-slice 𝓤 H A W 3 (1 ∷ []) tt (plain (λ _. u8)) yes, (goes-none-slice 𝓤 H A W 3 (1 ∷ []) tt (plain (λ _. u8)) yes, (goes-none 𝓤 H A W 3 (λ _. F.the-row) yes (λ κs x f. refl), (goes-gave-slice 𝓤 H A W 3 2 tt (plain (λ _. u8)), tt))))))))
       (it.clauses 𝓤 H A mem run) (WpFn 𝓤 H (𝓣 .C) (𝓣 .Λ) code.function) (WpFn-mono 𝓤 H (W .laws) 𝓣 code.function) walks
 
 pub format-annotated-spec : {M : Type 1} → stated.statement M

@@ -71,7 +71,7 @@ module _ {M : Type 1} (𝓤 : URA M) (H : Heap 𝓤) (A : Atoms 𝓤) (W : Given
   K-work = tripleOf 𝓤 H A work.signature (work.spec 𝓤 H A mem run)
 
 abbrev stayed : Stays (it.ended .signature .params) (it.ended .kept)
-stayed = (stay-none-slice (0 ∷ []) tt (plain (λ _. u8)) yes, (stay-none (λ _. usize) yes, (stay-none (λ _. Array T.the-row 32) yes, (stay-none (λ _. usize) yes, (stay-none (λ _. usize) yes, (gave-slice (1 ∷ []) tt (plain (λ _. u8)), tt))))))
+stayed = (stay-none-slice (0 ∷ []) tt (plain (λ _. u8)) yes, (stay-none (λ _. usize) yes, (stay-none (λ _. Array T.the-row 4098) yes, (stay-none (λ _. usize) yes, (stay-none (λ _. usize) yes, (gave-slice (1 ∷ []) tt (plain (λ _. u8)), tt))))))
 
 module _ {M : Type 1} (𝓤 : URA M) (H : Heap 𝓤) (A : Atoms 𝓤) (W : Given 𝓤 H A) (mem : Memory → SProp 𝓤) (run : Routine → Fun 𝓤) (κ₀ κ₁ : Lft) (q₀ q₁ : Share) (x-image : RefT (List ℕ)) (x-bits : ℕ) (x-spans : List Span) (x-count : ℕ) (x-address-unit : ℕ) (x-out : RefT (List ℕ)) where
   abbrev v-image : Val
@@ -117,11 +117,11 @@ module _ {M : Type 1} (𝓤 : URA M) (H : Heap 𝓤) (A : Atoms 𝓤) (W : Given
   abbrev Ends : Export → Val → List ℕ → List (Item 𝓤)
   Ends r v ws-out = ‵ (flft κ₀ q₀) ∷ ‵ (flft κ₁ q₁) ∷ ‵ (Own-image) ∷ ‵ (finally u8 (x-out .name) ws-out) ∷ ‵ (O.the-row .own r (v ∷ [])) ∷ []
 
-  exits : (r : Export) (v : Val) (ws-out : List ℕ) → Exports (hexOutcome (x-image .now) x-bits (offsetsOf (take x-count x-spans)) (sizesOf (take x-count x-spans)) x-address-unit (length (x-out .now))) r (x-out .now) ws-out → length ws-out ≡ length (x-out .now) → x-bits < 2 ^ 64 → Is (Array T.the-row 32) x-spans (v-spans ∷ []) → x-count < 2 ^ 64 → x-address-unit < 2 ^ 64 → ent 𝓤 (⋆ 𝓤 H A (Ends r v ws-out)) (Post v)
+  exits : (r : Export) (v : Val) (ws-out : List ℕ) → Exports (hexOutcome (x-image .now) x-bits (offsetsOf (take x-count x-spans)) (sizesOf (take x-count x-spans)) x-address-unit (length (x-out .now))) r (x-out .now) ws-out → length ws-out ≡ length (x-out .now) → x-bits < 2 ^ 64 → Is (Array T.the-row 4098) x-spans (v-spans ∷ []) → x-count < 2 ^ 64 → x-address-unit < 2 ^ 64 → ent 𝓤 (⋆ 𝓤 H A (Ends r v ws-out)) (Post v)
   exits r v ws-out e len-out g-bits g-spans g-count g-address-unit =
       qed W (Ends r v ws-out) ∵ suffices ! _ (ends-at 𝓤 H A it.ended stayed (it.clauses 𝓤 H A mem run) W bound v r (tt, (tt, (tt, (tt, (tt, (ws-out, tt)))))) (tt, (tt, (tt, (tt, (tt, (len-out, tt))))))) $ says ! e $
       nothing ! $ move ! (2 ∷ 0 ∷ []) $ join ! $ move ! (1 ∷ 0 ∷ []) $ join ! $ frame ! $
-      nothing ! $ move ! (2 ∷ 0 ∷ []) $ fjoin ! $ owned ! usize (Is usize) (uint-makes 𝓤 H A W w64) x-address-unit (v-address-unit ∷ []) (refl, g-address-unit) $ fjoin ! $ owned ! usize (Is usize) (uint-makes 𝓤 H A W w64) x-count (v-count ∷ []) (refl, g-count) $ fjoin ! $ owned ! (Array T.the-row 32) (Is (Array T.the-row 32)) (array-makes 𝓤 H A W T.the-row (LL.makes T.the-type T′.the-plain 𝓤 H A) 32) x-spans (v-spans ∷ []) g-spans $ fjoin ! $ owned ! usize (Is usize) (uint-makes 𝓤 H A W w64) x-bits (v-bits ∷ []) (refl, g-bits) $ fjoin ! $ move ! (1 ∷ 0 ∷ []) $ fjoin ! $ frame ! $ done !
+      nothing ! $ move ! (2 ∷ 0 ∷ []) $ fjoin ! $ owned ! usize (Is usize) (uint-makes 𝓤 H A W w64) x-address-unit (v-address-unit ∷ []) (refl, g-address-unit) $ fjoin ! $ owned ! usize (Is usize) (uint-makes 𝓤 H A W w64) x-count (v-count ∷ []) (refl, g-count) $ fjoin ! $ owned ! (Array T.the-row 4098) (Is (Array T.the-row 4098)) (array-makes 𝓤 H A W T.the-row (LL.makes T.the-type T′.the-plain 𝓤 H A) 4098) x-spans (v-spans ∷ []) g-spans $ fjoin ! $ owned ! usize (Is usize) (uint-makes 𝓤 H A W w64) x-bits (v-bits ∷ []) (refl, g-bits) $ fjoin ! $ move ! (1 ∷ 0 ∷ []) $ fjoin ! $ frame ! $ done !
 
   -- what is lent: the first records, from where the array lies
   abbrev first-spans : ℕ → GName → RefT (List Span)
@@ -143,21 +143,21 @@ module _ {M : Type 1} (𝓤 : URA M) (H : Heap 𝓤) (A : Atoms 𝓤) (W : Given
   abbrev to-work : ℕ → ℕ → GName → K-work 𝓤 H A W mem run .Ghost
   to-work α l γ = (((κ₀, (α ∷ [], (κ₁, tt))), (q₀, (fullShare, (q₁, tt))), tt, work-args l γ, (v-image ∷ [], (v-bits ∷ [], (v-lent l ∷ [], (v-address-unit ∷ [], (v-out ∷ [], tt)))))), tt)
 
-  goes-work : (α l : ℕ) (γ : GName) (g-bits : x-bits < 2 ^ 64) (g-spans : Is (Array T.the-row 32) x-spans (v-spans ∷ [])) (g-count : x-count < 2 ^ 64) (g-address-unit : x-address-unit < 2 ^ 64) → ent 𝓤 (⋆ 𝓤 H A (‵ (Own-image) ∷ ‵ (Shr α l γ) ∷ ‵ (Own-out) ∷ ‵ (flft κ₀ q₀) ∷ ‵ (flft (α ∷ []) fullShare) ∷ ‵ (flft κ₁ q₁) ∷ [])) (K-work 𝓤 H A W mem run .pre (to-work α l γ))
+  goes-work : (α l : ℕ) (γ : GName) (g-bits : x-bits < 2 ^ 64) (g-spans : Is (Array T.the-row 4098) x-spans (v-spans ∷ [])) (g-count : x-count < 2 ^ 64) (g-address-unit : x-address-unit < 2 ^ 64) → ent 𝓤 (⋆ 𝓤 H A (‵ (Own-image) ∷ ‵ (Shr α l γ) ∷ ‵ (Own-out) ∷ ‵ (flft κ₀ q₀) ∷ ‵ (flft (α ∷ []) fullShare) ∷ ‵ (flft κ₁ q₁) ∷ [])) (K-work 𝓤 H A W mem run .pre (to-work α l γ))
   goes-work α l γ g-bits g-spans g-count g-address-unit =
       qed W (‵ (Own-image) ∷ ‵ (Shr α l γ) ∷ ‵ (Own-out) ∷ ‵ (flft κ₀ q₀) ∷ ‵ (flft (α ∷ []) fullShare) ∷ ‵ (flft κ₁ q₁) ∷ []) ∵
       nothing ! $ move ! (3 ∷ 0 ∷ []) $ fjoin ! $ owned ! usize (Is usize) (uint-makes 𝓤 H A W w64) x-address-unit (v-address-unit ∷ []) (refl, g-address-unit) $ fjoin ! $ move ! (2 ∷ 0 ∷ []) $ fjoin ! $ owned ! usize (Is usize) (uint-makes 𝓤 H A W w64) x-bits (v-bits ∷ []) (refl, g-bits) $ fjoin ! $ move ! (1 ∷ 0 ∷ []) $ fjoin ! $
       nothing ! $ move ! (4 ∷ 0 ∷ []) $ join ! $ move ! (3 ∷ 0 ∷ []) $ join ! $ move ! (2 ∷ 0 ∷ []) $ join ! $ join ! $ frame ! $ done !
 
-  walk : Room u8 (length (x-image .now)) → x-bits < 2 ^ 64 → Is (Array T.the-row 32) x-spans (v-spans ∷ []) → x-count < 2 ^ 64 → x-address-unit < 2 ^ 64 → Room u8 (length (x-out .now)) → x-count ≤ 32 → (𝓣 : Tables 𝓤 H) → Triple 𝓤 (𝓣 .C #work) (K-work 𝓤 H A W mem run) → ent 𝓤 (onEntry 𝓤 H A it.signature (κ₀, (κ₁, tt)) (q₀, (q₁, tt)) args at) (WpFn 𝓤 H (𝓣 .C) (𝓣 .Λ) code.function (v-image ∷ v-bits ∷ v-spans ∷ v-count ∷ v-address-unit ∷ v-out ∷ []) Post)
+  walk : Room u8 (length (x-image .now)) → x-bits < 2 ^ 64 → Is (Array T.the-row 4098) x-spans (v-spans ∷ []) → x-count < 2 ^ 64 → x-address-unit < 2 ^ 64 → Room u8 (length (x-out .now)) → x-count ≤ 4098 → (𝓣 : Tables 𝓤 H) → Triple 𝓤 (𝓣 .C #work) (K-work 𝓤 H A W mem run) → ent 𝓤 (onEntry 𝓤 H A it.signature (κ₀, (κ₁, tt)) (q₀, (q₁, tt)) args at) (WpFn 𝓤 H (𝓣 .C) (𝓣 .Λ) code.function (v-image ∷ v-bits ∷ v-spans ∷ v-count ∷ v-address-unit ∷ v-out ∷ []) Post)
   walk g-image g-bits g-spans g-count g-address-unit g-out asked 𝓣 known-work =
-      qed W ((‵ (flft κ₀ q₀) ⊛ (‵ (flft κ₁ q₁) ⊛ ‵ ftrue)) ∷ ‵ (owns (ShrSlice (named 0) κ₀ u8 ∷ usize ∷ Array T.the-row 32 ∷ usize ∷ usize ∷ MutSlice (named 1) κ₁ u8 ∷ []) args at) ∷ []) ∵
+      qed W ((‵ (flft κ₀ q₀) ⊛ (‵ (flft κ₁ q₁) ⊛ ‵ ftrue)) ∷ ‵ (owns (ShrSlice (named 0) κ₀ u8 ∷ usize ∷ Array T.the-row 4098 ∷ usize ∷ usize ∷ MutSlice (named 1) κ₁ u8 ∷ []) args at) ∷ []) ∵
       enter ! (𝓣 .C) (𝓣 .Λ) code.function (v-image ∷ v-bits ∷ v-spans ∷ v-count ∷ v-address-unit ∷ v-out ∷ []) _ $
       alloc1 ! (λ l₀. alloc1 ! (λ l₁. alloc1 ! (λ l₂. alloc1 ! (λ l₃. alloc1 ! (λ l₄. alloc1 ! (λ l₅. alloc1 ! (λ l₆. alloc1 ! (λ l₇. alloc1 ! (λ l₈. alloc1 ! (λ l₉. alloc1 ! (λ l₁₀. alloc1 ! (λ l₁₁. alloc0 ! $ params1 ! $
-      pass1 ! (init ! 20 refl (tt, (tt, (record { fits = g-image .0 }, tt)))) $ pass1 ! (init ! 18 refl (tt, record { fits = g-bits })) $ pass1 ! (init ! 16 refl (array-lawful 𝓤 H A W T.the-row (LL.lawful T.the-type T′.the-laws 𝓤 H A W) 32 .typed x-spans _ g-spans .0)) $ pass1 ! (init ! 14 refl (tt, record { fits = g-count })) $ pass1 ! (init ! 12 refl (tt, record { fits = g-address-unit })) $ pass1 ! (init ! 10 refl (tt, (tt, (record { fits = g-out .0 }, tt)))) $ pass0 ! $
+      pass1 ! (init ! 20 refl (tt, (tt, (record { fits = g-image .0 }, tt)))) $ pass1 ! (init ! 18 refl (tt, record { fits = g-bits })) $ pass1 ! (init ! 16 refl (array-lawful 𝓤 H A W T.the-row (LL.lawful T.the-type T′.the-laws 𝓤 H A W) 4098 .typed x-spans _ g-spans .0)) $ pass1 ! (init ! 14 refl (tt, record { fits = g-count })) $ pass1 ! (init ! 12 refl (tt, record { fits = g-address-unit })) $ pass1 ! (init ! 10 refl (tt, (tt, (record { fits = g-out .0 }, tt)))) $ pass0 ! $
       move ! (24 ∷ 25 ∷ []) $ split ! $ move ! (1 ∷ []) $ split ! $ move ! (1 ∷ []) $ move ! (3 ∷ []) $ fsplit ! $ move ! (1 ∷ []) $ fsplit ! $ move ! (1 ∷ []) $ fsplit ! $ move ! (1 ∷ []) $ fsplit ! $ move ! (1 ∷ []) $ fsplit ! $ move ! (1 ∷ []) $ fsplit ! $ move ! (1 ∷ []) $
-      assigns ! (of-opd ! (load ! (from ! (stop !)) (look ! 26 refl))) (from ! (stop !)) (init ! 18 refl (array-lawful 𝓤 H A W T.the-row (LL.lawful T.the-type T′.the-laws 𝓤 H A W) 32 .typed x-spans _ g-spans .0)) $
-      move ! (18 ∷ 4 ∷ []) $ use2 W (‵ (arr-parts (shares T.the-row) 32 .part fullShare x-spans l₇ 0)) (local.fresh 𝓤 H A W T.the-row l₇ 0 tt 32 x-spans v-spans) $ fsplit ! $ feqL ! (λ len-spans.
+      assigns ! (of-opd ! (load ! (from ! (stop !)) (look ! 26 refl))) (from ! (stop !)) (init ! 18 refl (array-lawful 𝓤 H A W T.the-row (LL.lawful T.the-type T′.the-laws 𝓤 H A W) 4098 .typed x-spans _ g-spans .0)) $
+      move ! (18 ∷ 4 ∷ []) $ use2 W (‵ (arr-parts (shares T.the-row) 4098 .part fullShare x-spans l₇ 0)) (local.fresh 𝓤 H A W T.the-row l₇ 0 tt 4098 x-spans v-spans) $ fsplit ! $ feqL ! (λ len-spans.
       use1 W (‵ (row T.the-row fullShare (take x-count x-spans) l₇ 0) ⊛ ‵ (local.Others 𝓤 H A W T.the-row l₇ 0 x-count x-spans)) (local.cut 𝓤 H A W T.the-row l₇ 0 x-count x-spans) $ split ! $
       assigns ! (addr ! (from ! (stop !))) (from ! (stop !)) (init ! 17 refl (tt, tt)) $
       assigns ! (agg ! (and-then ! (load ! (from ! (stop !)) (look ! 17 refl)) (and-then ! (load ! (from ! (stop !)) (look ! 24 refl)) (no-more !)))) (from ! (stop !)) (init ! 15 refl (tt, (tt, (record { fits = g-count }, tt)))) $
@@ -165,7 +165,7 @@ module _ {M : Type 1} (𝓤 : URA M) (H : Heap 𝓤) (A : Atoms 𝓤) (W : Given
       assigns ! (addr ! (from ! (fld ! refl (hop ! (look-in ! 20 (sub ! 0 refl (whole !))) (stop !))))) (from ! (stop !)) (init ! 13 refl (tt, tt)) $
       assigns ! (agg ! (and-then ! (load ! (from ! (stop !)) (look ! 13 refl)) (and-then ! (load ! (from ! (fld ! refl (stop !))) (look-in ! 20 (sub ! 1 refl (whole !)))) (no-more !)))) (from ! (stop !)) (init ! 11 refl (tt, (tt, (record { fits = g-out .0 }, tt)))) $
       move ! (7 ∷ []) $ use1 W (‵ Own-image ⊛ ‵ Own-image) (shr-slice-copy 𝓤 H A W (named 0) κ₀ u8 .twice x-image (v-image ∷ [])) $ split ! $
-      lft-new ! tt (λ α. move ! (3 ∷ []) $ use1 W (later (some (λ (γ : GName). ‵ (Shr α l₇ γ) ⊛ ‵ (flent (α ∷ []) (arr-parts (shares T.the-row) (length (take x-count x-spans)) .part fullShare (take x-count x-spans) l₇ 0))))) (local.show 𝓤 H A W T.the-row l₇ 0 (named 1) (α ∷ []) (take x-count x-spans) (room-take T.the-row 32 x-count x-spans len-spans (lit< tt, lit< tt))) $ await ! tt $ pick ! (λ γ. split ! $
+      lft-new ! tt (λ α. move ! (3 ∷ []) $ use1 W (later (some (λ (γ : GName). ‵ (Shr α l₇ γ) ⊛ ‵ (flent (α ∷ []) (arr-parts (shares T.the-row) (length (take x-count x-spans)) .part fullShare (take x-count x-spans) l₇ 0))))) (local.show 𝓤 H A W T.the-row l₇ 0 (named 1) (α ∷ []) (take x-count x-spans) (room-take T.the-row 4098 x-count x-spans len-spans (lit< tt, lit< tt))) $ await ! tt $ pick ! (λ γ. split ! $
       move ! (3 ∷ 0 ∷ 7 ∷ 13 ∷ 2 ∷ 12 ∷ []) $ group ! 6 $ use1 W (raw (K-work 𝓤 H A W mem run .pre (to-work α l₇ γ))) (goes-work α l₇ γ g-bits g-spans g-count g-address-unit) $
       calls-at ! (fmOf 𝓤 H (W .laws) 𝓣) (K-work 𝓤 H A W mem run) known-work (to-work α l₇ γ)
       (and-then ! (load ! (from ! (stop !)) (look ! 28 refl)) (and-then ! (load ! (from ! (stop !)) (look ! 26 refl)) (and-then ! (load ! (from ! (stop !)) (look ! 13 refl)) (and-then ! (load ! (from ! (stop !)) (look ! 20 refl)) (and-then ! (load ! (from ! (stop !)) (look ! 9 refl)) (no-more !)))))) (λ v.
@@ -177,7 +177,7 @@ module _ {M : Type 1} (𝓤 : URA M) (H : Heap 𝓤) (A : Atoms 𝓤) (W : Given
       move ! (4 ∷ []) $ peeks ! O.the-row (Is O.the-row) (shows 𝓤 H A O.the-row) r (v ∷ []) (λ is. land ! (from ! (stop !)) (init ! 40 refl (EL.lawful O.the-type O′.the-laws 𝓤 H A W tt .typed r _ is .0)) $
       -- the array is whole again
       move ! (3 ∷ []) $ lft-end ! tt $ move ! (0 ∷ 11 ∷ []) $ lent-back ! tt $ fsplit ! $ drop ! $ move ! (0 ∷ 12 ∷ []) $ use2 W (‵ (row T.the-row fullShare x-spans l₇ 0)) (local.glue 𝓤 H A W T.the-row l₇ 0 x-count x-spans) $
-      use1 W (‵ (froom (tyArray T′.mir 32) l₇ 0)) (local.spare 𝓤 H A W T.the-row l₇ 0 32 x-spans len-spans) $
+      use1 W (‵ (froom (tyArray T′.mir 4098) l₇ 0)) (local.spare 𝓤 H A W T.the-row l₇ 0 4098 x-spans len-spans) $
       returns ! (look ! 38 refl) $ forget ! 38 refl $ forget ! 36 refl $ forget ! 34 refl $ forget ! 32 refl $ forget ! 30 refl $ forget ! 28 refl $ forget ! 26 refl $ forget ! 23 refl $ forget ! 21 refl $ forget ! 19 refl $ forget ! 17 refl $
       move ! (38 ∷ 39 ∷ 36 ∷ 37 ∷ 34 ∷ 35 ∷ 32 ∷ 33 ∷ 30 ∷ 31 ∷ 28 ∷ 29 ∷ 26 ∷ 27 ∷ 0 ∷ 25 ∷ 23 ∷ 24 ∷ 21 ∷ 22 ∷ 19 ∷ 20 ∷ 17 ∷ 18 ∷ []) $
       free1 ! $ free1 ! $ free1 ! $ free1 ! $ free1 ! $ free1 ! $ free1 ! $ free1 ! $ free1 ! $ free1 ! $ free1 ! $ free1 ! $ free0 ! $
@@ -186,12 +186,12 @@ module _ {M : Type 1} (𝓤 : URA M) (H : Heap 𝓤) (A : Atoms 𝓤) (W : Given
 module _ {M : Type 1} (𝓤 : URA M) (H : Heap 𝓤) (A : Atoms 𝓤) (W : Given 𝓤 H A) (mem : Memory → SProp 𝓤) (run : Routine → Fun 𝓤) (𝓣 : Tables 𝓤 H) (known-work : Triple 𝓤 (𝓣 .C #work) (K-work 𝓤 H A W mem run)) where
   walks : Walks 𝓤 H A it.ended stayed (WpFn 𝓤 H (𝓣 .C) (𝓣 .Λ) code.function) (it.clauses 𝓤 H A mem run)
   walks = walked 𝓤 H A it.ended stayed (it.clauses 𝓤 H A mem run) (WpFn 𝓤 H (𝓣 .C) (𝓣 .Λ) code.function) (λ κs. (slice-vals, (uint-vals w64, (array-vals (LL.vals T.the-type T′.the-laws), (uint-vals w64, (uint-vals w64, (slice-vals, tt)))))))
-      (λ κs. (shr-slice-tells (named 0) (κs .0) u8, (uint-tells w64, (array-tells T.the-row (LL.vals T.the-type T′.the-laws) (LL.tells T.the-type T′.the-laws) 32, (uint-tells w64, (uint-tells w64, (mut-slice-tells (named 1) (κs .1 .0) u8, tt)))))))
-      (λ κs qs bounds a g are. needs 𝓤 ((a .1 .1 .1 .0) ≤ 32) _ (λ asked. walk 𝓤 H A W mem run (κs .0) (κs .1 .0) (qs .0) (qs .1 .0) (a .0) (a .1 .0) (a .1 .1 .0) (a .1 .1 .1 .0) (a .1 .1 .1 .1 .0) (a .1 .1 .1 .1 .1 .0) (are .0 .0 .1) (are .1 .0 .1) (are .1 .1 .0) (are .1 .1 .1 .0 .1) (are .1 .1 .1 .1 .0 .1) (are .1 .1 .1 .1 .1 .0 .0 .1) asked 𝓣 known-work))
+      (λ κs. (shr-slice-tells (named 0) (κs .0) u8, (uint-tells w64, (array-tells T.the-row (LL.vals T.the-type T′.the-laws) (LL.tells T.the-type T′.the-laws) 4098, (uint-tells w64, (uint-tells w64, (mut-slice-tells (named 1) (κs .1 .0) u8, tt)))))))
+      (λ κs qs bounds a g are. needs 𝓤 ((a .1 .1 .1 .0) ≤ 4098) _ (λ asked. walk 𝓤 H A W mem run (κs .0) (κs .1 .0) (qs .0) (qs .1 .0) (a .0) (a .1 .0) (a .1 .1 .0) (a .1 .1 .1 .0) (a .1 .1 .1 .1 .0) (a .1 .1 .1 .1 .1 .0) (are .0 .0 .1) (are .1 .0 .1) (are .1 .1 .0) (are .1 .1 .1 .0 .1) (are .1 .1 .1 .1 .0 .1) (are .1 .1 .1 .1 .1 .0 .0 .1) asked 𝓣 known-work))
 
   meets : Meets 𝓤 H A it.signature (WpFn 𝓤 H (𝓣 .C) (𝓣 .Λ) code.function) (it.spec 𝓤 H A mem run)
   meets = walk-meets 𝓤 H A it.ended stayed W
-      (goes-none-slice 𝓤 H A W 2 (0 ∷ []) tt (plain (λ _. u8)) yes, (goes-none 𝓤 H A W 2 (λ _. usize) yes (λ κs x f. refl), (goes-none 𝓤 H A W 2 (λ _. Array T.the-row 32) yes (λ κs x f. refl), (goes-none 𝓤 H A W 2 (λ _. usize) yes (λ κs x f. refl), (goes-none 𝓤 H A W 2 (λ _. usize) yes (λ κs x f. refl), (goes-gave-slice 𝓤 H A W 2 1 tt (plain (λ _. u8)), tt))))))
+      (goes-none-slice 𝓤 H A W 2 (0 ∷ []) tt (plain (λ _. u8)) yes, (goes-none 𝓤 H A W 2 (λ _. usize) yes (λ κs x f. refl), (goes-none 𝓤 H A W 2 (λ _. Array T.the-row 4098) yes (λ κs x f. refl), (goes-none 𝓤 H A W 2 (λ _. usize) yes (λ κs x f. refl), (goes-none 𝓤 H A W 2 (λ _. usize) yes (λ κs x f. refl), (goes-gave-slice 𝓤 H A W 2 1 tt (plain (λ _. u8)), tt))))))
       (it.clauses 𝓤 H A mem run) (WpFn 𝓤 H (𝓣 .C) (𝓣 .Λ) code.function) (WpFn-mono 𝓤 H (W .laws) 𝓣 code.function) walks
 
 pub format-intelhex-spec : {M : Type 1} → stated.statement M

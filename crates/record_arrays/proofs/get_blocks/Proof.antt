@@ -70,7 +70,7 @@ module _ {M : Type 1} (𝓤 : URA M) (H : Heap 𝓤) (A : Atoms 𝓤) (W : Given
   K-work = tripleOf 𝓤 H A work.signature (work.spec 𝓤 H A mem run)
 
 abbrev stayed : Stays (it.ended .signature .params) (it.ended .kept)
-stayed = (stay-none (λ _. Array T.the-row 32) yes, (stay-none (λ _. usize) yes, (gave-slice (0 ∷ []) tt (plain (λ _. u32)), (gave-slice (1 ∷ []) tt (plain (λ _. u32)), tt))))
+stayed = (stay-none (λ _. Array T.the-row 4098) yes, (stay-none (λ _. usize) yes, (gave-slice (0 ∷ []) tt (plain (λ _. u32)), (gave-slice (1 ∷ []) tt (plain (λ _. u32)), tt))))
 
 module _ {M : Type 1} (𝓤 : URA M) (H : Heap 𝓤) (A : Atoms 𝓤) (W : Given 𝓤 H A) (mem : Memory → SProp 𝓤) (run : Routine → Fun 𝓤) (κ₀ κ₁ : Lft) (q₀ q₁ : Share) (x-spans : List Span) (x-count : ℕ) (x-block-offsets : RefT (List ℕ)) (x-block-sizes : RefT (List ℕ)) where
   abbrev v-spans : Val
@@ -110,11 +110,11 @@ module _ {M : Type 1} (𝓤 : URA M) (H : Heap 𝓤) (A : Atoms 𝓤) (W : Given
   abbrev Ends : Blocks → Val → List ℕ → List ℕ → List (Item 𝓤)
   Ends r v ws-block-offsets ws-block-sizes = ‵ (flft κ₀ q₀) ∷ ‵ (flft κ₁ q₁) ∷ ‵ (finally u32 (x-block-offsets .name) ws-block-offsets) ∷ ‵ (finally u32 (x-block-sizes .name) ws-block-sizes) ∷ ‵ (O.the-row .own r (v ∷ [])) ∷ []
 
-  exits : (r : Blocks) (v : Val) (ws-block-offsets : List ℕ) (ws-block-sizes : List ℕ) → Finds (blocksFound (offsetsOf (take x-count x-spans)) (sizesOf (take x-count x-spans)) (length (x-block-offsets .now)) (length (x-block-sizes .now))) r (x-block-offsets .now) ws-block-offsets (x-block-sizes .now) ws-block-sizes → length ws-block-offsets ≡ length (x-block-offsets .now) → length ws-block-sizes ≡ length (x-block-sizes .now) → Is (Array T.the-row 32) x-spans (v-spans ∷ []) → x-count < 2 ^ 64 → ent 𝓤 (⋆ 𝓤 H A (Ends r v ws-block-offsets ws-block-sizes)) (Post v)
+  exits : (r : Blocks) (v : Val) (ws-block-offsets : List ℕ) (ws-block-sizes : List ℕ) → Finds (blocksFound (offsetsOf (take x-count x-spans)) (sizesOf (take x-count x-spans)) (length (x-block-offsets .now)) (length (x-block-sizes .now))) r (x-block-offsets .now) ws-block-offsets (x-block-sizes .now) ws-block-sizes → length ws-block-offsets ≡ length (x-block-offsets .now) → length ws-block-sizes ≡ length (x-block-sizes .now) → Is (Array T.the-row 4098) x-spans (v-spans ∷ []) → x-count < 2 ^ 64 → ent 𝓤 (⋆ 𝓤 H A (Ends r v ws-block-offsets ws-block-sizes)) (Post v)
   exits r v ws-block-offsets ws-block-sizes e len-block-offsets len-block-sizes g-spans g-count =
       qed W (Ends r v ws-block-offsets ws-block-sizes) ∵ suffices ! _ (ends-at 𝓤 H A it.ended stayed (it.clauses 𝓤 H A mem run) W bound v r (tt, (tt, (ws-block-offsets, (ws-block-sizes, tt)))) (tt, (tt, (len-block-offsets, (len-block-sizes, tt))))) $ says ! e $
       nothing ! $ move ! (2 ∷ 0 ∷ []) $ join ! $ move ! (1 ∷ 0 ∷ []) $ join ! $ frame ! $
-      nothing ! $ move ! (2 ∷ 0 ∷ []) $ fjoin ! $ move ! (1 ∷ 0 ∷ []) $ fjoin ! $ owned ! usize (Is usize) (uint-makes 𝓤 H A W w64) x-count (v-count ∷ []) (refl, g-count) $ fjoin ! $ owned ! (Array T.the-row 32) (Is (Array T.the-row 32)) (array-makes 𝓤 H A W T.the-row (LL.makes T.the-type T′.the-plain 𝓤 H A) 32) x-spans (v-spans ∷ []) g-spans $ fjoin ! $ frame ! $ done !
+      nothing ! $ move ! (2 ∷ 0 ∷ []) $ fjoin ! $ move ! (1 ∷ 0 ∷ []) $ fjoin ! $ owned ! usize (Is usize) (uint-makes 𝓤 H A W w64) x-count (v-count ∷ []) (refl, g-count) $ fjoin ! $ owned ! (Array T.the-row 4098) (Is (Array T.the-row 4098)) (array-makes 𝓤 H A W T.the-row (LL.makes T.the-type T′.the-plain 𝓤 H A) 4098) x-spans (v-spans ∷ []) g-spans $ fjoin ! $ frame ! $ done !
 
   -- what is lent: the first records, from where the array lies
   abbrev first-spans : ℕ → GName → RefT (List Span)
@@ -136,21 +136,21 @@ module _ {M : Type 1} (𝓤 : URA M) (H : Heap 𝓤) (A : Atoms 𝓤) (W : Given
   abbrev to-work : ℕ → ℕ → GName → K-work 𝓤 H A W mem run .Ghost
   to-work α l γ = (((α ∷ [], (κ₀, (κ₁, tt))), (fullShare, (q₀, (q₁, tt))), tt, work-args l γ, (v-lent l ∷ [], (v-block-offsets ∷ [], (v-block-sizes ∷ [], tt)))), tt)
 
-  goes-work : (α l : ℕ) (γ : GName) (g-spans : Is (Array T.the-row 32) x-spans (v-spans ∷ [])) (g-count : x-count < 2 ^ 64) → ent 𝓤 (⋆ 𝓤 H A (‵ (Shr α l γ) ∷ ‵ (Own-block-offsets) ∷ ‵ (Own-block-sizes) ∷ ‵ (flft (α ∷ []) fullShare) ∷ ‵ (flft κ₀ q₀) ∷ ‵ (flft κ₁ q₁) ∷ [])) (K-work 𝓤 H A W mem run .pre (to-work α l γ))
+  goes-work : (α l : ℕ) (γ : GName) (g-spans : Is (Array T.the-row 4098) x-spans (v-spans ∷ [])) (g-count : x-count < 2 ^ 64) → ent 𝓤 (⋆ 𝓤 H A (‵ (Shr α l γ) ∷ ‵ (Own-block-offsets) ∷ ‵ (Own-block-sizes) ∷ ‵ (flft (α ∷ []) fullShare) ∷ ‵ (flft κ₀ q₀) ∷ ‵ (flft κ₁ q₁) ∷ [])) (K-work 𝓤 H A W mem run .pre (to-work α l γ))
   goes-work α l γ g-spans g-count =
       qed W (‵ (Shr α l γ) ∷ ‵ (Own-block-offsets) ∷ ‵ (Own-block-sizes) ∷ ‵ (flft (α ∷ []) fullShare) ∷ ‵ (flft κ₀ q₀) ∷ ‵ (flft κ₁ q₁) ∷ []) ∵
       nothing ! $ move ! (3 ∷ 0 ∷ []) $ fjoin ! $ move ! (2 ∷ 0 ∷ []) $ fjoin ! $ move ! (1 ∷ 0 ∷ []) $ fjoin ! $
       nothing ! $ move ! (4 ∷ 0 ∷ []) $ join ! $ move ! (3 ∷ 0 ∷ []) $ join ! $ move ! (2 ∷ 0 ∷ []) $ join ! $ join ! $ frame ! $ done !
 
-  walk : Is (Array T.the-row 32) x-spans (v-spans ∷ []) → x-count < 2 ^ 64 → Room u32 (length (x-block-offsets .now)) → Room u32 (length (x-block-sizes .now)) → x-count ≤ 32 → (𝓣 : Tables 𝓤 H) → Triple 𝓤 (𝓣 .C #work) (K-work 𝓤 H A W mem run) → ent 𝓤 (onEntry 𝓤 H A it.signature (κ₀, (κ₁, tt)) (q₀, (q₁, tt)) args at) (WpFn 𝓤 H (𝓣 .C) (𝓣 .Λ) code.function (v-spans ∷ v-count ∷ v-block-offsets ∷ v-block-sizes ∷ []) Post)
+  walk : Is (Array T.the-row 4098) x-spans (v-spans ∷ []) → x-count < 2 ^ 64 → Room u32 (length (x-block-offsets .now)) → Room u32 (length (x-block-sizes .now)) → x-count ≤ 4098 → (𝓣 : Tables 𝓤 H) → Triple 𝓤 (𝓣 .C #work) (K-work 𝓤 H A W mem run) → ent 𝓤 (onEntry 𝓤 H A it.signature (κ₀, (κ₁, tt)) (q₀, (q₁, tt)) args at) (WpFn 𝓤 H (𝓣 .C) (𝓣 .Λ) code.function (v-spans ∷ v-count ∷ v-block-offsets ∷ v-block-sizes ∷ []) Post)
   walk g-spans g-count g-block-offsets g-block-sizes asked 𝓣 known-work =
-      qed W ((‵ (flft κ₀ q₀) ⊛ (‵ (flft κ₁ q₁) ⊛ ‵ ftrue)) ∷ ‵ (owns (Array T.the-row 32 ∷ usize ∷ MutSlice (named 0) κ₀ u32 ∷ MutSlice (named 1) κ₁ u32 ∷ []) args at) ∷ []) ∵
+      qed W ((‵ (flft κ₀ q₀) ⊛ (‵ (flft κ₁ q₁) ⊛ ‵ ftrue)) ∷ ‵ (owns (Array T.the-row 4098 ∷ usize ∷ MutSlice (named 0) κ₀ u32 ∷ MutSlice (named 1) κ₁ u32 ∷ []) args at) ∷ []) ∵
       enter ! (𝓣 .C) (𝓣 .Λ) code.function (v-spans ∷ v-count ∷ v-block-offsets ∷ v-block-sizes ∷ []) _ $
       alloc1 ! (λ l₀. alloc1 ! (λ l₁. alloc1 ! (λ l₂. alloc1 ! (λ l₃. alloc1 ! (λ l₄. alloc1 ! (λ l₅. alloc1 ! (λ l₆. alloc1 ! (λ l₇. alloc1 ! (λ l₈. alloc1 ! (λ l₉. alloc1 ! (λ l₁₀. alloc1 ! (λ l₁₁. alloc0 ! $ params1 ! $
-      pass1 ! (init ! 20 refl (array-lawful 𝓤 H A W T.the-row (LL.lawful T.the-type T′.the-laws 𝓤 H A W) 32 .typed x-spans _ g-spans .0)) $ pass1 ! (init ! 18 refl (tt, record { fits = g-count })) $ pass1 ! (init ! 16 refl (tt, (tt, (record { fits = g-block-offsets .0 }, tt)))) $ pass1 ! (init ! 14 refl (tt, (tt, (record { fits = g-block-sizes .0 }, tt)))) $ pass0 ! $
+      pass1 ! (init ! 20 refl (array-lawful 𝓤 H A W T.the-row (LL.lawful T.the-type T′.the-laws 𝓤 H A W) 4098 .typed x-spans _ g-spans .0)) $ pass1 ! (init ! 18 refl (tt, record { fits = g-count })) $ pass1 ! (init ! 16 refl (tt, (tt, (record { fits = g-block-offsets .0 }, tt)))) $ pass1 ! (init ! 14 refl (tt, (tt, (record { fits = g-block-sizes .0 }, tt)))) $ pass0 ! $
       move ! (24 ∷ 25 ∷ []) $ split ! $ move ! (1 ∷ []) $ split ! $ move ! (1 ∷ []) $ move ! (3 ∷ []) $ fsplit ! $ move ! (1 ∷ []) $ fsplit ! $ move ! (1 ∷ []) $ fsplit ! $ move ! (1 ∷ []) $ fsplit ! $ move ! (1 ∷ []) $
-      assigns ! (of-opd ! (load ! (from ! (stop !)) (look ! 28 refl))) (from ! (stop !)) (init ! 20 refl (array-lawful 𝓤 H A W T.the-row (LL.lawful T.the-type T′.the-laws 𝓤 H A W) 32 .typed x-spans _ g-spans .0)) $
-      move ! (20 ∷ 4 ∷ []) $ use2 W (‵ (arr-parts (shares T.the-row) 32 .part fullShare x-spans l₅ 0)) (local.fresh 𝓤 H A W T.the-row l₅ 0 tt 32 x-spans v-spans) $ fsplit ! $ feqL ! (λ len-spans.
+      assigns ! (of-opd ! (load ! (from ! (stop !)) (look ! 28 refl))) (from ! (stop !)) (init ! 20 refl (array-lawful 𝓤 H A W T.the-row (LL.lawful T.the-type T′.the-laws 𝓤 H A W) 4098 .typed x-spans _ g-spans .0)) $
+      move ! (20 ∷ 4 ∷ []) $ use2 W (‵ (arr-parts (shares T.the-row) 4098 .part fullShare x-spans l₅ 0)) (local.fresh 𝓤 H A W T.the-row l₅ 0 tt 4098 x-spans v-spans) $ fsplit ! $ feqL ! (λ len-spans.
       use1 W (‵ (row T.the-row fullShare (take x-count x-spans) l₅ 0) ⊛ ‵ (local.Others 𝓤 H A W T.the-row l₅ 0 x-count x-spans)) (local.cut 𝓤 H A W T.the-row l₅ 0 x-count x-spans) $ split ! $
       assigns ! (addr ! (from ! (stop !))) (from ! (stop !)) (init ! 19 refl (tt, tt)) $
       assigns ! (agg ! (and-then ! (load ! (from ! (stop !)) (look ! 19 refl)) (and-then ! (load ! (from ! (stop !)) (look ! 26 refl)) (no-more !)))) (from ! (stop !)) (init ! 17 refl (tt, (tt, (record { fits = g-count }, tt)))) $
@@ -159,7 +159,7 @@ module _ {M : Type 1} (𝓤 : URA M) (H : Heap 𝓤) (A : Atoms 𝓤) (W : Given
       assigns ! (agg ! (and-then ! (load ! (from ! (stop !)) (look ! 15 refl)) (and-then ! (load ! (from ! (fld ! refl (stop !))) (look-in ! 24 (sub ! 1 refl (whole !)))) (no-more !)))) (from ! (stop !)) (init ! 13 refl (tt, (tt, (record { fits = g-block-offsets .0 }, tt)))) $
       assigns ! (addr ! (from ! (fld ! refl (hop ! (look-in ! 22 (sub ! 0 refl (whole !))) (stop !))))) (from ! (stop !)) (init ! 11 refl (tt, tt)) $
       assigns ! (agg ! (and-then ! (load ! (from ! (stop !)) (look ! 11 refl)) (and-then ! (load ! (from ! (fld ! refl (stop !))) (look-in ! 22 (sub ! 1 refl (whole !)))) (no-more !)))) (from ! (stop !)) (init ! 9 refl (tt, (tt, (record { fits = g-block-sizes .0 }, tt)))) $
-      lft-new ! tt (λ α. move ! (1 ∷ []) $ use1 W (later (some (λ (γ : GName). ‵ (Shr α l₅ γ) ⊛ ‵ (flent (α ∷ []) (arr-parts (shares T.the-row) (length (take x-count x-spans)) .part fullShare (take x-count x-spans) l₅ 0))))) (local.show 𝓤 H A W T.the-row l₅ 0 (named 0) (α ∷ []) (take x-count x-spans) (room-take T.the-row 32 x-count x-spans len-spans (lit< tt, lit< tt))) $ await ! tt $ pick ! (λ γ. split ! $
+      lft-new ! tt (λ α. move ! (1 ∷ []) $ use1 W (later (some (λ (γ : GName). ‵ (Shr α l₅ γ) ⊛ ‵ (flent (α ∷ []) (arr-parts (shares T.the-row) (length (take x-count x-spans)) .part fullShare (take x-count x-spans) l₅ 0))))) (local.show 𝓤 H A W T.the-row l₅ 0 (named 0) (α ∷ []) (take x-count x-spans) (room-take T.the-row 4098 x-count x-spans len-spans (lit< tt, lit< tt))) $ await ! tt $ pick ! (λ γ. split ! $
       move ! (0 ∷ 6 ∷ 5 ∷ 2 ∷ 10 ∷ 9 ∷ []) $ group ! 6 $ use1 W (raw (K-work 𝓤 H A W mem run .pre (to-work α l₅ γ))) (goes-work α l₅ γ g-spans g-count) $
       calls-at ! (fmOf 𝓤 H (W .laws) 𝓣) (K-work 𝓤 H A W mem run) known-work (to-work α l₅ γ)
       (and-then ! (load ! (from ! (stop !)) (look ! 14 refl)) (and-then ! (load ! (from ! (stop !)) (look ! 10 refl)) (and-then ! (load ! (from ! (stop !)) (look ! 6 refl)) (no-more !)))) (λ v.
@@ -171,7 +171,7 @@ module _ {M : Type 1} (𝓤 : URA M) (H : Heap 𝓤) (A : Atoms 𝓤) (W : Given
       move ! (4 ∷ []) $ peeks ! O.the-row (Is O.the-row) (shows 𝓤 H A O.the-row) r (v ∷ []) (λ is. land ! (from ! (stop !)) (init ! 35 refl (EL.lawful O.the-type O′.the-laws 𝓤 H A W tt .typed r _ is .0)) $
       -- the array is whole again
       move ! (4 ∷ []) $ lft-end ! tt $ move ! (0 ∷ 9 ∷ []) $ lent-back ! tt $ fsplit ! $ drop ! $ move ! (0 ∷ 9 ∷ []) $ use2 W (‵ (row T.the-row fullShare x-spans l₅ 0)) (local.glue 𝓤 H A W T.the-row l₅ 0 x-count x-spans) $
-      use1 W (‵ (froom (tyArray T′.mir 32) l₅ 0)) (local.spare 𝓤 H A W T.the-row l₅ 0 32 x-spans len-spans) $
+      use1 W (‵ (froom (tyArray T′.mir 4098) l₅ 0)) (local.spare 𝓤 H A W T.the-row l₅ 0 4098 x-spans len-spans) $
       returns ! (look ! 33 refl) $ forget ! 33 refl $ forget ! 31 refl $ forget ! 29 refl $ forget ! 27 refl $ forget ! 25 refl $ forget ! 22 refl $ forget ! 20 refl $ forget ! 18 refl $ forget ! 16 refl $ forget ! 14 refl $ forget ! 12 refl $
       move ! (33 ∷ 34 ∷ 31 ∷ 32 ∷ 29 ∷ 30 ∷ 27 ∷ 28 ∷ 25 ∷ 26 ∷ 0 ∷ 24 ∷ 22 ∷ 23 ∷ 20 ∷ 21 ∷ 18 ∷ 19 ∷ 16 ∷ 17 ∷ 14 ∷ 15 ∷ 12 ∷ 13 ∷ []) $
       free1 ! $ free1 ! $ free1 ! $ free1 ! $ free1 ! $ free1 ! $ free1 ! $ free1 ! $ free1 ! $ free1 ! $ free1 ! $ free1 ! $ free0 ! $
@@ -180,12 +180,12 @@ module _ {M : Type 1} (𝓤 : URA M) (H : Heap 𝓤) (A : Atoms 𝓤) (W : Given
 module _ {M : Type 1} (𝓤 : URA M) (H : Heap 𝓤) (A : Atoms 𝓤) (W : Given 𝓤 H A) (mem : Memory → SProp 𝓤) (run : Routine → Fun 𝓤) (𝓣 : Tables 𝓤 H) (known-work : Triple 𝓤 (𝓣 .C #work) (K-work 𝓤 H A W mem run)) where
   walks : Walks 𝓤 H A it.ended stayed (WpFn 𝓤 H (𝓣 .C) (𝓣 .Λ) code.function) (it.clauses 𝓤 H A mem run)
   walks = walked 𝓤 H A it.ended stayed (it.clauses 𝓤 H A mem run) (WpFn 𝓤 H (𝓣 .C) (𝓣 .Λ) code.function) (λ κs. (array-vals (LL.vals T.the-type T′.the-laws), (uint-vals w64, (slice-vals, (slice-vals, tt)))))
-      (λ κs. (array-tells T.the-row (LL.vals T.the-type T′.the-laws) (LL.tells T.the-type T′.the-laws) 32, (uint-tells w64, (mut-slice-tells (named 0) (κs .0) u32, (mut-slice-tells (named 1) (κs .1 .0) u32, tt)))))
-      (λ κs qs bounds a g are. needs 𝓤 ((a .1 .0) ≤ 32) _ (λ asked. walk 𝓤 H A W mem run (κs .0) (κs .1 .0) (qs .0) (qs .1 .0) (a .0) (a .1 .0) (a .1 .1 .0) (a .1 .1 .1 .0) (are .0) (are .1 .0 .1) (are .1 .1 .0 .0 .1) (are .1 .1 .1 .0 .0 .1) asked 𝓣 known-work))
+      (λ κs. (array-tells T.the-row (LL.vals T.the-type T′.the-laws) (LL.tells T.the-type T′.the-laws) 4098, (uint-tells w64, (mut-slice-tells (named 0) (κs .0) u32, (mut-slice-tells (named 1) (κs .1 .0) u32, tt)))))
+      (λ κs qs bounds a g are. needs 𝓤 ((a .1 .0) ≤ 4098) _ (λ asked. walk 𝓤 H A W mem run (κs .0) (κs .1 .0) (qs .0) (qs .1 .0) (a .0) (a .1 .0) (a .1 .1 .0) (a .1 .1 .1 .0) (are .0) (are .1 .0 .1) (are .1 .1 .0 .0 .1) (are .1 .1 .1 .0 .0 .1) asked 𝓣 known-work))
 
   meets : Meets 𝓤 H A it.signature (WpFn 𝓤 H (𝓣 .C) (𝓣 .Λ) code.function) (it.spec 𝓤 H A mem run)
   meets = walk-meets 𝓤 H A it.ended stayed W
-      (goes-none 𝓤 H A W 2 (λ _. Array T.the-row 32) yes (λ κs x f. refl), (goes-none 𝓤 H A W 2 (λ _. usize) yes (λ κs x f. refl), (goes-gave-slice 𝓤 H A W 2 0 tt (plain (λ _. u32)), (goes-gave-slice 𝓤 H A W 2 1 tt (plain (λ _. u32)), tt))))
+      (goes-none 𝓤 H A W 2 (λ _. Array T.the-row 4098) yes (λ κs x f. refl), (goes-none 𝓤 H A W 2 (λ _. usize) yes (λ κs x f. refl), (goes-gave-slice 𝓤 H A W 2 0 tt (plain (λ _. u32)), (goes-gave-slice 𝓤 H A W 2 1 tt (plain (λ _. u32)), tt))))
       (it.clauses 𝓤 H A mem run) (WpFn 𝓤 H (𝓣 .C) (𝓣 .Λ) code.function) (WpFn-mono 𝓤 H (W .laws) 𝓣 code.function) walks
 
 pub get-blocks-spec : {M : Type 1} → stated.statement M
