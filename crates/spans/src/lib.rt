@@ -73,14 +73,7 @@ fn location_of(start: u64, end: u64) -> Location
 
 impl Span {
     // The record of the core's numbers.
-    pub fn new(
-        offset: u32,
-        size: u32,
-        addr: u64,
-        file_handle: u8,
-        start: u64,
-        end: u64,
-    ) -> Span
+    pub fn new(offset: u32, size: u32, addr: u64, file_handle: u8, start: u64, end: u64) -> Span
         ensures { λ r. ⌜ r ≡ record { offset = offsetFrom offset; size = size; addr = addr; «file_handle» = «file_handle»; location = locationFrom start end } ⌝ }
     {
         let offset = offset_of(offset);

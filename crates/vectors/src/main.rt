@@ -1,11 +1,14 @@
 // Replays recorded answers of the Rust through the library. Standard input is the record, which
 // `tests/compare/run --vectors` made: for each answer a line `KIND OPTION OPTION2 OPTION3 STRING
 // STRING2 STRING3 STRING4 BITS IMAGE TEXT`, numbers in decimal, bytes in hexadecimal, `-` for none.
-// Prints a line with a count for each exporter.
+// Prints a line with a count for each exporter, and for those that take spans one through records.
 ghost use Prim.Native.Nat.{_+_, _≤_, _<_};
 ghost use lib.ListN.{length};
 ghost use mathlib.Core.Path.{_≡_};
 ghost use Rattle.io.specs.Counts.{Counts};
+
+mod records;
+
 use format_dump::DumpOptions;
 use format_list::FormatListOptions;
 use listing::FormatAnnotatedOptions;
@@ -234,6 +237,9 @@ fn file_column(table: &[u8; 256]) -> [u8; 9]
 fn export_intelhex(s: &[u8], line: Line, image: &[u8], out: &mut [u8]) -> Export {
     let mut table = [0u8; 256];
     let n = bytes(s, line.strings, &mut table) / 8;
+    if line.kind == b'X' {
+        return records::export_intelhex(image, line.bits, &table, n, line.option, out);
+    }
     let offsets = column(&table, 8, 0);
     let sizes = column(&table, 8, 4);
     intelhex::format_intelhex(
@@ -303,6 +309,18 @@ fn export_annotated(s: &[u8], line: Line, image: &[u8], out: &mut [u8]) -> Expor
     let n3 = bytes(s, field(s, at2), &mut protocol);
     let mut table = [0u8; 256];
     let n = bytes(s, line.strings, &mut table) / 28;
+    if line.kind == b'A' {
+        return records::export_rows(
+            image,
+            line.bits,
+            &table,
+            n,
+            &firmware[..n2],
+            &protocol[..n3],
+            options,
+            out,
+        );
+    }
     export_rows(
         image,
         line.bits,
@@ -348,6 +366,17 @@ fn export_plain(line: Line, image: &[u8], out: &mut [u8]) -> Export {
     format_logisim::format_logisim(image, line.bits, line.option, out)
 }
 
+// The letter of the lines that a kind replays: X and A are x and a through records.
+fn letter(kind: u8) -> u8 {
+    if kind == b'X' {
+        return b'x';
+    }
+    if kind == b'A' {
+        return b'a';
+    }
+    kind
+}
+
 // The exporter that a line's letter stands for.
 fn export(s: &[u8], line: Line, out: &mut [u8]) -> Export {
     let mut buffer = [0u8; 64];
@@ -362,10 +391,10 @@ fn export(s: &[u8], line: Line, out: &mut [u8]) -> Export {
     if line.kind == b'd' {
         return export_dump(line, image, out);
     }
-    if line.kind == b'x' {
+    if letter(line.kind) == b'x' {
         return export_intelhex(s, line, image, out);
     }
-    if line.kind == b'a' {
+    if letter(line.kind) == b'a' {
         return export_annotated(s, line, image, out);
     }
     export_plain(line, image, out)
@@ -426,7 +455,7 @@ fn recorded(s: &[u8], at: usize, kind: u8) -> u64
     requires { ⌜ at < length (now s) ⌝ }
     ensures { λ r. ⌜ r ≤ 1 ⌝ }
 {
-    if s[at] == kind { 1 } else { 0 }
+    if s[at] == letter(kind) { 1 } else { 0 }
 }
 
 // 1 where it is, and its answer is the library's.
@@ -434,7 +463,7 @@ fn replayed(s: &[u8], at: usize, kind: u8) -> u64
     requires { ⌜ at < length (now s) ⌝ }
     ensures { λ r. ⌜ r ≤ 1 ⌝ }
 {
-    if s[at] != kind {
+    if s[at] != letter(kind) {
         return 0;
     }
     if replay(s, at, kind) { 1 } else { 0 }
@@ -481,4 +510,6 @@ fn main() {
     report(b"format_dump", s, b'd');
     report(b"format_intelhex", s, b'x');
     report(b"format_annotated", s, b'a');
+    report(b"format_intelhex over records", s, b'X');
+    report(b"format_annotated over records", s, b'A');
 }

@@ -12,6 +12,15 @@ slice-aggregate-bytes c = search needs
 bytes-requires : tie.Need-bytes-requires
 bytes-requires c κs = search needs
 
+export-intelhex-requires : tie.Need-export-intelhex-requires
+export-intelhex-requires c κs = search needs
+
+same-length : tie.Need-same-length
+same-length c = search needs
+
+returns : tie.Need-returns
+returns c = search needs
+
 column-requires : tie.Need-column-requires
 column-requires c κs = search needs
 
@@ -33,11 +42,11 @@ slice-aggregate-format-intelhex-2 c = simp length-take (omega arith)
 format-intelhex-requires : tie.Need-format-intelhex-requires
 format-intelhex-requires c κs = search needs
 
-same-length : tie.Need-same-length
-same-length c = search needs
+same-length-2 : tie.Need-same-length-2
+same-length-2 c = search needs
 
-returns : tie.Need-returns
-returns c = search needs
+returns-2 : tie.Need-returns-2
+returns-2 c = search needs
 
 pub export-intelhex-spec : {M : Type 1} → statement M
 export-intelhex-spec =
@@ -45,6 +54,9 @@ export-intelhex-spec =
     (tie.spec
     slice-aggregate-bytes
     bytes-requires
+    export-intelhex-requires
+    same-length
+    returns
     column-requires
     column-requires-2
     array-share-prefix-offsets
@@ -52,5 +64,5 @@ export-intelhex-spec =
     array-share-prefix-sizes
     slice-aggregate-format-intelhex-2
     format-intelhex-requires
-    same-length
-    returns)
+    same-length-2
+    returns-2)
