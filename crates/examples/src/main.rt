@@ -1,7 +1,8 @@
 // Runs examples through the library and compares: the rows of document 01's table, the marked ones
-// too, what document 01 says in words, and Intel HEX files that others published. Prints a line for
-// each and a count. IEEE 1364, which describes the files of $readmemb and $readmemh, and the documents
-// of MIF and Logisim were not at hand: no example of their own is run here.
+// too, what document 01 says in words, some of both through span records, and Intel HEX files that
+// others published. Prints a line for each and a count. IEEE 1364, which describes the files of
+// $readmemb and $readmemh, and the documents of MIF and Logisim were not at hand: no example of their
+// own is run here.
 mod dumps;
 mod hex;
 mod listing_refusals;
@@ -9,6 +10,7 @@ mod listings;
 mod lists;
 mod memory;
 mod plain;
+mod records;
 mod tell;
 
 fn main() {
@@ -43,6 +45,7 @@ fn main() {
     count += hex::all();
     count += listings::all();
     count += listing_refusals::all();
+    count += records::all();
     io::print_decimal(1, count);
     io::write_all(1, b" examples came out\n");
 }
