@@ -1,15 +1,15 @@
 -- What the core finds in the columns of records is what it finds in the records' numbers.
 -- Assumes nothing.
-use mathlib.Core.Path.{_≡_, refl, sym, ap, subst, _∙_}
+use mathlib.Core.Path.{_≡_, sym, ap, subst, _∙_}
 use mathlib.Core.Bool.{false, cond, _||_}
-use mathlib.Core.List.{List, map}
-use Prim.Native.Nat.{ℕ, min}
+use mathlib.Core.List.{List}
+use Prim.Native.Nat.{ℕ}
 use lib.Dec.{ltb}
 use lib.ListN.{length, take}
 use Rattle.bitvec.specs.Size.{badSize}
-use Rattle.outcome.specs.Outcome.{Outcome, refused, outside, Exports}
+use Rattle.outcome.specs.Outcome.{refused, outside, Exports}
 use Rattle.ordering.proofs.Lists.{map-length}
-use Rattle.blocks.specs.Blocks.{Finding, refused as none-found, found, blocksOf, blocksFound}
+use Rattle.blocks.specs.Blocks.{refused as none-found, found, blocksOf, blocksFound}
 use Rattle.hex_records.specs.Plan.{hexPlan}
 use Rattle.intelhex.specs.declared.both.Both.{Both}
 use Rattle.intelhex.specs.Hex.{planOutcome, hexOutcome}

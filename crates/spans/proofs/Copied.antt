@@ -2,7 +2,7 @@
 -- Assumes nothing.
 use mathlib.Core.Path.{_≡_, refl, sym, ap, _∙_}
 use mathlib.Core.List.{List, [], _∷_, map}
-use Prim.Native.Nat.{ℕ, zero, suc, _+_, _<_, _≤_, min}
+use Prim.Native.Nat.{ℕ, zero, suc, _+_, _<_, min}
 use native.Mathlib.Nat.{not-suc-le-zero, le-of-suc-le-suc}
 use native.Mathlib.Omega.{arith}
 use lib.ListN.{length, getD, take, set, length-replicate, length-take}
@@ -11,8 +11,6 @@ use Rattle.ordering.proofs.Lists.{map-length, sets-copied}
 use Rattle.spans.specs.declared.Offset.the-variants.{Absent}
 use Rattle.spans.specs.declared.Location.the-variants.{Nowhere}
 use Rattle.spans.specs.declared.Span.{Span}
-use Rattle.spans.specs.declared.Columns.{Columns}
-use Rattle.spans.specs.declared.ListingColumns.{ListingColumns}
 use Rattle.spans.specs.Spans.{offsetNumber, startNumber, endNumber, zeros, column, offsetsOf, sizesOf, addrsOf, filesOf, startsOf, endsOf, columnsOf, listingColumnsOf}
 
 -- The record that stands past the end of a list.

@@ -1,13 +1,12 @@
 -- The columns of at most 4,097 records tell the core all that it looks at: a list that was cut is too long, and is refused as the whole list is.
 -- Assumes nothing.
-use mathlib.Core.Path.{_≡_, refl, sym, ap, _∙_}
-use mathlib.Core.Bool.{Bool, true, cond, _||_}
+use mathlib.Core.Path.{_≡_, refl, sym, _∙_}
+use mathlib.Core.Bool.{true}
 use mathlib.Core.List.{List, map}
 use Prim.Native.Nat.{ℕ, _≤_, _<_, min}
 use native.Mathlib.Omega.{arith}
-use lib.Dec.{ltb}
 use lib.ListN.{length, take, length-take}
-use lib.Seq.{sets, length-sets, take-all}
+use lib.Seq.{length-sets, take-all}
 use borrow.Author.Tests.{lt-ltb}
 use Rattle.output.proofs.Order.{by-order}
 use Rattle.ordering.proofs.Lists.{map-length, sets-front}

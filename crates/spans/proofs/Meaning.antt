@@ -2,13 +2,13 @@
 -- numbers has these numbers.
 -- Assumes nothing.
 use mathlib.Core.Path.{_≡_, refl, sym, ap, _∙_}
-use mathlib.Core.Bool.{Bool, true, false, cond, not, _&&_}
-use mathlib.Core.List.{List, [], _∷_, map}
+use mathlib.Core.Bool.{Bool, true, false}
+use mathlib.Core.List.{List}
 use Prim.Native.Nat.{ℕ, zero, suc, _+_, _<_, _≤_, min}
 use native.Mathlib.Omega.{arith}
 use lib.Dec.{eqb, ltb}
 use lib.ListN.{length, getD}
-use borrow.Author.Tests.{lt-ltb, eq-eqb, ne-eqb, eqb-true, eqb-false}
+use borrow.Author.Tests.{lt-ltb, ne-eqb, eqb-true, eqb-false}
 use Rattle.output.proofs.Order.{by-order}
 use Rattle.bitvec.specs.Size.{maxBits}
 use Rattle.ordering.specs.Lists.{first}
@@ -17,8 +17,6 @@ use Rattle.ordering.proofs.Lists.{map-length}
 use Rattle.span_range.specs.Range.{badSpan, faultAt}
 use Rattle.spans.specs.declared.Offset.{Offset}
 use Rattle.spans.specs.declared.Offset.the-variants.{At, Absent}
-use Rattle.spans.specs.declared.Location.{Location}
-use Rattle.spans.specs.declared.Location.the-variants.{In, Nowhere}
 use Rattle.spans.specs.declared.Span.{Span}
 use Rattle.spans.specs.Spans.{offsetNumber, startNumber, endNumber, offsetFrom, locationFrom, offsetsOf, sizesOf, endsPast}
 use Rattle.spans.proofs.Copied.{no-span, number-at}
