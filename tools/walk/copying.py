@@ -10,7 +10,7 @@ def copying(crate, function, result, definition, columns, counted):
             ensures { λ r. ⌜ r ≡ DEFINITION (now (spans .entry)) ⌝ }
         {
             let mut c1: [uW1; 4097] = [0; 4097];      // .. ck
-            let count = smaller(spans.len(), 4097);
+            let count = output::smaller(spans.len(), 4097);
             let mut i: usize = 0;
             while i < count {
                 let span = spans[i];
@@ -46,7 +46,7 @@ def copying(crate, function, result, definition, columns, counted):
         f"use Rattle.{crate}.proofs.{result} as O",
         f"use Rattle.{crate}.proofs.{result}.Laws as O′",
     ])
-    w.calls("smaller", crate, "smaller")
+    w.calls("smaller", "output", "smaller")
     for j in J:
         if called(j):
             w.calls(alias(j), crate, f"{RECORD}::{columns[j - 1][2]}")
@@ -108,15 +108,7 @@ fails false _ = refl
 """)
     w("-- ---- the callees")
     w.contracts()
-    w(f"""  abbrev to-smaller : ℕ → K-smaller .Ghost
-  to-smaller n = ((tt, tt, tt, (n, ({LONGEST}, tt)), (vint w64 n ∷ [], (vint w64 {LONGEST} ∷ [], tt))), tt)
-
-  goes-smaller : (n : ℕ) → n < 2 ^ 64 → ent 𝓤 (emp 𝓤) (K-smaller .pre (to-smaller n))
-  goes-smaller n g = qed W [] ∵ nothing ! $ {USIZE.owned(str(LONGEST), f'vint w64 {LONGEST}', '(refl, lit< tt)')}fjoin ! $ {USIZE.owned('n', 'vint w64 n', '(refl, g)')}fjoin ! $ nothing ! $ join ! $ frame ! $ done !
-
-  says-smaller : (n r : ℕ) → ent 𝓤 (ensured 𝓤 H A smaller.ended (smaller.clauses 𝓤 H A mem run) tt (n, ({LONGEST}, tt)) tt r) (fact 𝓤 (r ≡ min n {LONGEST}))
-  says-smaller n r = exE 𝓤 _ (λ ws. snd∗ 𝓤 (sem 𝓤 H A (lasts smaller.ended tt (n, ({LONGEST}, tt)) ws)) (fact 𝓤 (r ≡ min n {LONGEST})))
-""")
+    w.smaller(LONGEST)
     for j in J:
         if called(j):
             a = alias(j)
@@ -404,16 +396,10 @@ fails false _ = refl
         close += 1
     e += "      -- how many are copied\n"
     e += f"      assigns ! (of-opd ! ({cx.part('spans', 1)})) ({HERE}) (init ! {cx.at('len')} refl (tt, record {{ fits = g₀ .0 }})) $\n"
-    e += f"      use0 W (raw (K-smaller {P} .pre (to-smaller {P} (length xs)))) (goes-smaller {P} (length xs) (g₀ .0)) $\n"
-    cx.head(0, "pre")
-    e += f"      calls-at ! (fmOf 𝓤 H (W .laws) 𝓣) (K-smaller {P}) known-smaller (to-smaller {P} (length xs)) {operands([cx.cell('len'), 'local.big-lit ! (record { fits = lit< tt })'])} (λ v.\n"
-    e += f"      use1 W (later (some (λ (r : ℕ). (‵ ftrue ⊛ ‵ (usize .own r (v ∷ []))) ⊛ raw (ensured 𝓤 H A smaller.ended (smaller.clauses 𝓤 H A mem run) tt (length xs, ({LONGEST}, tt)) tt r)))) (id⊢ 𝓤 _) $ await ! tt $ pick ! (λ r.\n"
-    e += f"      split ! $ move ! (1 ∷ []) $ use1 W (raw (fact 𝓤 (r ≡ n))) (says-smaller {P} (length xs) r) $ heard ! (r ≡ n) (λ e. split ! $ drop ! $\n"
-    e += f"      {USIZE.peeks('r', 'v', 'is')}land ! ({HERE}) (init ! {cx.at('count')} refl ({USIZE.lawful('r', 'is')})) $ drop ! $\n"
-    cx.head(1)
-    e += f"      rewrite ! {cx.at('count')} (λ (u : Val). ‵ (fat fullShare (tyInt w64) {block('count')} 0 u)) (ap only (is .0) ∙ ap (vint w64) e) refl $\n"
+    counting, more = w.at_most(cx, "(length xs)", "(g₀ .0)", "len", "count", block("count"), LONGEST)
+    e += counting
     e += f"      assigns ! (of-opd ! (lit ! tt)) ({HERE}) (init ! {cx.at('i')} refl (tt, record {{ fits = lit< tt }})) $\n"
-    close += 4
+    close += more
     e += "      " + cx.move("tokens", "owns") + "split ! $ "
     cx.head(1, "token", "true")
     e += cx.move("owns") + "fsplit ! $ "

@@ -7,28 +7,38 @@ def lending(crate, function, parameters, length, callee, lent_as, arguments, res
     """A function that lends the first records of an array by value:
 
         pub fn FUNCTION(.., spans: [Span; LENGTH], count: usize, ..) -> RESULT
-            requires { ⌜ count ≤ LENGTH ⌝ }
             ensures { λ r. ⌜ PROMISE ⌝ }
         {
-            CALLEE(.., &spans[..count], ..)
+            let n = output::smaller(count, LENGTH);
+            CALLEE(.., &spans[..n], ..)
         }
 
     PROMISE is what the callee promises of the records lent, {xs}. LENT_AS is the number of the records' lifetime in the callee's signature."""
-    xs = "(take x-count x-spans)"
+    n = f"(min x-count {length})"
+    xs = f"(take {n} x-spans)"
     byname = {p.name: p for p in parameters}
     mutable = [p.name for p in parameters if p.kind == "mutable"]
 
-    def over(ws):
-        return promise.format(xs=xs, **{p.name: p.bare for p in parameters}, **{f"{n}′": w for n, w in zip(mutable, ws)})
+    def over(ws, xs=xs):
+        return promise.format(xs=xs, **{p.name: p.bare for p in parameters}, **{f"{m}′": w for m, w in zip(mutable, ws)})
 
     w = Passing(crate, function, [
         f"`{crate}::{function}` meets its contract: a walk of its MIR. The first records of an array that is passed by value are lent to `{'::'.join(callee)}`.",
         "All that the proof knows of the callee is that it meets its contract.",
-    ], cites, parameters, result, over([f"ws-{n}" for n in mutable]))
+    ], cites, parameters, result, over([f"ws-{m}" for m in mutable], "(take x-count x-spans)"))
+    w.calls("smaller", "output", "smaller")
     w.calls("work", *callee)
     w.contracts()
+    w.smaller(length)
+    w(f"""-- how many are lent
+n-fits : (n : ℕ) → n < 2 ^ 64 → min n {length} < 2 ^ 64
+n-fits n g = omega arith
+
+n-most : (n m : ℕ) → m ≡ {length} → min n {length} ≤ m
+n-most n m e = omega arith
+""")
     w.opening()
-    L = ["res"] + [p.name for p in parameters] + ["slot", "ref", "lent"] + [y for p in w.mutable for y in (f"br {p.name}", f"bs {p.name}")]
+    L = ["res"] + [p.name for p in parameters] + ["slot", "n", "ref", "lent"] + [y for p in w.mutable for y in (f"br {p.name}", f"bs {p.name}")]
     block = lambda n: "l" + sub(L.index(n))
     slices = [a for a in arguments if a == "spans" or byname[a].slice]
     lifetimes, held = [], []
@@ -74,27 +84,28 @@ def lending(crate, function, parameters, length, callee, lent_as, arguments, res
     l = block("slot")
     e = w.entry(cx)
     e += f"      assigns ! (of-opd ! ({cx.cell('spans')})) ({HERE}) (init ! {cx.at('slot')} refl ({spans.type.lawful(spans.x, 'g-spans')})) $\n"
+    counting, open_ = w.at_most(cx, "x-count", "g-count", "count", "n", block("n"), length)
+    e += counting
     e += f"      {cx.move('slot', 'own spans')}use2 W (‵ (arr-parts (shares T.the-row) {length} .part fullShare x-spans {l} 0)) (local.fresh 𝓤 H A W T.the-row {l} 0 tt {length} x-spans v-spans) $ fsplit ! $ feqL ! (λ len-spans.\n"
     cx.head(2, "row")
-    e += f"      use1 W (‵ (row T.the-row fullShare {xs} {l} 0) ⊛ ‵ (local.Others 𝓤 H A W T.the-row {l} 0 x-count x-spans)) (local.cut 𝓤 H A W T.the-row {l} 0 x-count x-spans) $ split ! $\n"
+    e += f"      use1 W (‵ (row T.the-row fullShare {xs} {l} 0) ⊛ ‵ (local.Others 𝓤 H A W T.the-row {l} 0 {n} x-spans)) (local.cut 𝓤 H A W T.the-row {l} 0 {n} x-spans) $ split ! $\n"
     cx.head(1, "first", "others")
     e += f"      assigns ! (addr ! ({HERE})) ({HERE}) (init ! {cx.at('ref')} refl (tt, tt)) $\n"
-    e += f"      assigns ! (agg ! {operands([cx.cell('ref'), cx.cell('count')])}) ({HERE}) (init ! {cx.at('lent')} refl (tt, (tt, (record {{ fits = g-count }}, tt)))) $\n"
+    e += f"      assigns ! (agg ! {operands([cx.cell('ref'), cx.cell('n')])}) ({HERE}) (init ! {cx.at('lent')} refl (tt, (tt, (record {{ fits = n-fits x-count g-count }}, tt)))) $\n"
     mir = "sliceTy (tyRef erased imm (pointee (T.the-row .written)))"
-    fewer = "subst (λ (m : ℕ). x-count ≤ m) (sym len-spans) asked"
-    e += f"      rewrite ! {cx.at('lent')} (λ (m : ℕ). ‵ (fat fullShare ({mir}) {block('lent')} 0 (sliceVal ({l}, 0) m))) (sym (length-take-le x-count x-spans ({fewer}))) refl $\n"
+    e += f"      rewrite ! {cx.at('lent')} (λ (m : ℕ). ‵ (fat fullShare ({mir}) {block('lent')} 0 (sliceVal ({l}, 0) m))) (sym (length-take-le {n} x-spans (n-most x-count (length x-spans) len-spans))) refl $\n"
     e += w.relends(cx)
     e += w.copies([byname[a] for a in slices if a != "spans" and byname[a].kind == "shared"], cx)
     e += "      lft-new ! tt (λ α. "
     cx.head(0, "ta")
     held_row = f"arr-parts (shares T.the-row) (length {xs}) .part fullShare {xs} {l} 0"
-    e += f"{cx.move('first')}use1 W (later (some (λ (γ : GName). ‵ (Shr α {l} γ) ⊛ ‵ (flent (α ∷ []) ({held_row}))))) (local.show 𝓤 H A W T.the-row {l} 0 (named {lent_as}) (α ∷ []) {xs} (room-take T.the-row {length} x-count x-spans len-spans (lit< tt, lit< tt))) $ await ! tt $ pick ! (λ γ. split ! $\n"
+    e += f"{cx.move('first')}use1 W (later (some (λ (γ : GName). ‵ (Shr α {l} γ) ⊛ ‵ (flent (α ∷ []) ({held_row}))))) (local.show 𝓤 H A W T.the-row {l} 0 (named {lent_as}) (α ∷ []) {xs} (room-take T.the-row {length} {n} x-spans len-spans (lit< tt, lit< tt))) $ await ! tt $ pick ! (λ γ. split ! $\n"
     cx.head(1, "shr", "lent-row")
     here = [n if not n.startswith("pass ") or byname[n[5:]].kind == "shared" else "own " + n[5:] for n in passing]
     e += f"      {cx.move(*here)}group ! {len(passing)} $ use1 W (raw (K-work {P} .pre (to-work α {l} γ))) (goes-work α {l} γ{''.join(f' g-{p.name}' for p in values)}) $\n"
     cx.head(len(passing), "pre")
     loads = [cx.cell("lent" if a == "spans" else f"bs {a}" if byname[a].kind == "mutable" else a) for a in arguments]
-    ws = [f"(ws{path(arguments.index(n))})" for n in mutable]
+    ws = [f"(ws{path(arguments.index(m))})" for m in mutable]
     w.args = f"(work-args {l} γ)"
     ended, more = w.answered(cx, loads, f"to-work α {l} γ", lifetimes, held, arguments, over(ws))
     e += ended
@@ -102,10 +113,11 @@ def lending(crate, function, parameters, length, callee, lent_as, arguments, res
     cx.head(1, "dead")
     e += cx.move("dead", "lent-row") + "lent-back ! tt $ fsplit ! $ drop ! $ "
     cx.head(2, "first")
-    e += f"{cx.move('first', 'others')}use2 W (‵ (row T.the-row fullShare x-spans {l} 0)) (local.glue 𝓤 H A W T.the-row {l} 0 x-count x-spans) $\n"
+    e += f"{cx.move('first', 'others')}use2 W (‵ (row T.the-row fullShare x-spans {l} 0)) (local.glue 𝓤 H A W T.the-row {l} 0 {n} x-spans) $\n"
     cx.head(2, "row")
     e += f"      use1 W (‵ (froom (tyArray T′.mir {length}) {l} 0)) (local.spare 𝓤 H A W T.the-row {l} 0 {length} x-spans len-spans) $\n"
     cx.head(1, "slot")
-    e += w.left(cx, L, [n for n in L if n != "slot"], ws, "e", len(L) + more + 3)
-    w.walking(L, e, f"x-count ≤ {length}")
+    said = f"subst (λ (ys : List {RECORD}). {over(ws, 'ys')}) (take-most x-spans x-count {length} len-spans) e"
+    e += w.left(cx, L, [m for m in L if m != "slot"], ws, said, len(L) + open_ + more + 3)
+    w.walking(L, e)
     return w

@@ -238,30 +238,22 @@ class Passing(Walk):
         ends = [f"t{k}" for k in range(self.count)] + [("last " if p.kind == "mutable" else "own ") + p.name for p in self.slices] + ["result"]
         return e + f"      {cx.keep(ends)}by ! (exits r v {' '.join(ws)} ({proof}){''.join(f' len-{p.name}' for p in self.mutable)}{''.join(f' g-{p.name}' for p in values)})" + ")" * close
 
-    def walking(self, L, script, requires=None):
+    def walking(self, L, script):
         """The walk from the entry on, and the function's own statement."""
         ks = nest([f"κ{sub(k)}" for k in range(self.count)])
         qs = nest([f"q{sub(k)}" for k in range(self.count)])
         machines = chain(p.v for p in self.parameters)
         gave = "".join(f" g-{p.name}" for p in self.parameters)
-        asked = f"{requires} → " if requires else ""
-        self(f"""  walk : {''.join(f'{p.given()} → ' for p in self.parameters)}{asked}(𝓣 : Tables 𝓤 H) → {self.known_types()}ent 𝓤 (onEntry 𝓤 H A it.signature {ks} {qs} args at) (WpFn 𝓤 H (𝓣 .C) (𝓣 .Λ) code.function ({machines}) Post)
-  walk{gave}{' asked' if requires else ''} 𝓣{self.knowns()} =
+        self(f"""  walk : {''.join(f'{p.given()} → ' for p in self.parameters)}(𝓣 : Tables 𝓤 H) → {self.known_types()}ent 𝓤 (onEntry 𝓤 H A it.signature {ks} {qs} args at) (WpFn 𝓤 H (𝓣 .C) (𝓣 .Λ) code.function ({machines}) Post)
+  walk{gave} 𝓣{self.knowns()} =
       qed W ({tokens([self.token(k) for k in range(self.count)])} ∷ ‵ (owns ({chain(p.row() for p in self.parameters)}) args at) ∷ []) ∵
       enter ! (𝓣 .C) (𝓣 .Λ) code.function ({machines}) _ $
       {''.join(f'alloc1 ! (λ l{sub(x)}. ' for x in range(len(L)))}alloc0 ! $ params1 ! $
 {script}
 """)
         walking = " ".join([f"(κs{path(k)})" for k in range(self.count)] + [f"(qs{path(k)})" for k in range(self.count)] + [f"(a{path(n)})" for n in range(len(self.parameters))] + [p.learnt(n) for n, p in enumerate(self.parameters)])
-        values = {p.x: f"(a{path(n)})" for n, p in enumerate(self.parameters)}
-        if requires:
-            for x, v in values.items():
-                requires = requires.replace(x, v)
-            before = f"needs 𝓤 ({requires}) _ (λ asked. walk {P} {walking} asked 𝓣"
-        else:
-            before = f"via 𝓤 _ (fst∗ 𝓤 _ (emp 𝓤)) (walk {P} {walking} 𝓣"
         ps = self.parameters
-        self.ending([p.spells() for p in ps], [p.tells() for p in ps], [p.goes(self.count) for p in ps], before)
+        self.ending([p.spells() for p in ps], [p.tells() for p in ps], [p.goes(self.count) for p in ps], f"via 𝓤 _ (fst∗ 𝓤 _ (emp 𝓤)) (walk {P} {walking} 𝓣")
 
     def lasts(self, arguments, cx):
         """What a call says of its arguments at exit: of a `&mut` slice its last list, and that it is as long as before."""

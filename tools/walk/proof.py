@@ -1,5 +1,5 @@
 """A proof in the making: what it imports and cites, and how a walk becomes the function's statement."""
-from walk.terms import P, GIVEN, nest
+from walk.terms import GIVEN, HERE, P, USIZE, nest, operands
 
 
 IMPORTS = """mathlib.Core.Path: _≡_, refl, sym, _∙_, ap, subst
@@ -131,6 +131,31 @@ class Walk:
         self(f"module _ {GIVEN} where")
         for alias, _, _ in self.callees:
             self(f"  abbrev K-{alias} : Contract 𝓤\n  K-{alias} = tripleOf 𝓤 H A {alias}.signature ({alias}.spec 𝓤 H A mem run)\n")
+
+    def smaller(self, bound):
+        """The callee `output::smaller`, of a number and a bound: what it is passed, and what it says."""
+        self(f"""  abbrev to-smaller : ℕ → K-smaller .Ghost
+  to-smaller n = ((tt, tt, tt, (n, ({bound}, tt)), (vint w64 n ∷ [], (vint w64 {bound} ∷ [], tt))), tt)
+
+  goes-smaller : (n : ℕ) → n < 2 ^ 64 → ent 𝓤 (emp 𝓤) (K-smaller .pre (to-smaller n))
+  goes-smaller n g = qed W [] ∵ nothing ! $ {USIZE.owned(str(bound), f'vint w64 {bound}', '(refl, lit< tt)')}fjoin ! $ {USIZE.owned('n', 'vint w64 n', '(refl, g)')}fjoin ! $ nothing ! $ join ! $ frame ! $ done !
+
+  says-smaller : (n r : ℕ) → ent 𝓤 (ensured 𝓤 H A smaller.ended (smaller.clauses 𝓤 H A mem run) tt (n, ({bound}, tt)) tt r) (fact 𝓤 (r ≡ min n {bound}))
+  says-smaller n r = exE 𝓤 _ (λ ws. snd∗ 𝓤 (sem 𝓤 H A (lasts smaller.ended tt (n, ({bound}, tt)) ws)) (fact 𝓤 (r ≡ min n {bound})))
+""")
+
+    @staticmethod
+    def at_most(cx, number, fits, source, target, block, bound):
+        """The call of `smaller` on a local that holds a number, and its result in another local; and how many brackets are open."""
+        e = f"      use0 W (raw (K-smaller {P} .pre (to-smaller {P} {number}))) (goes-smaller {P} {number} {fits}) $\n"
+        cx.head(0, "pre")
+        e += f"      calls-at ! (fmOf 𝓤 H (W .laws) 𝓣) (K-smaller {P}) known-smaller (to-smaller {P} {number}) {operands([cx.cell(source), 'local.big-lit ! (record { fits = lit< tt })'])} (λ v.\n"
+        e += f"      use1 W (later (some (λ (r : ℕ). (‵ ftrue ⊛ ‵ (usize .own r (v ∷ []))) ⊛ raw (ensured 𝓤 H A smaller.ended (smaller.clauses 𝓤 H A mem run) tt ({number.strip('()')}, ({bound}, tt)) tt r)))) (id⊢ 𝓤 _) $ await ! tt $ pick ! (λ r.\n"
+        e += f"      split ! $ move ! (1 ∷ []) $ use1 W (raw (fact 𝓤 (r ≡ min {number} {bound}))) (says-smaller {P} {number} r) $ heard ! (r ≡ min {number} {bound}) (λ e. split ! $ drop ! $\n"
+        e += f"      {USIZE.peeks('r', 'v', 'is')}land ! ({HERE}) (init ! {cx.at(target)} refl ({USIZE.lawful('r', 'is')})) $ drop ! $\n"
+        cx.head(1)
+        e += f"      rewrite ! {cx.at(target)} (λ (u : Val). ‵ (fat fullShare (tyInt w64) {block} 0 u)) (ap only (is .0) ∙ ap (vint w64) e) refl $\n"
+        return e, 4
 
     def known(self, tables="𝓣 .C"):
         return "".join(f" (known-{a} : Triple 𝓤 ({tables} #{a}) (K-{a} {P}))" for a, _, _ in self.callees)

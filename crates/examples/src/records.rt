@@ -41,7 +41,7 @@ fn three(a: Span, b: Span, c: Span) -> [Span; 4098] {
 
 // Tells whether the first `count` records give the text.
 fn writes(name: &[u8], spans: [Span; 4098], count: usize, text: &[u8]) -> u64
-    requires { ⌜ (count ≤ 4098) × (length (now text) ≤ 256) ⌝ }
+    requires { ⌜ length (now text) ≤ 256 ⌝ }
     ensures { λ r. ⌜ r ≤ 1 ⌝ }
 {
     let mut out = [OLD; 256];
@@ -59,7 +59,6 @@ fn refuses(
     number: u32,
     value: usize,
 ) -> u64
-    requires { ⌜ count ≤ 4098 ⌝ }
     ensures { λ r. ⌜ r ≤ 1 ⌝ }
 {
     let mut out = [OLD; 256];
@@ -166,7 +165,7 @@ fn lists(
     value: usize,
     text: &[u8],
 ) -> u64
-    requires { ⌜ (count ≤ 4098) × (length (now text) ≤ 256) ⌝ }
+    requires { ⌜ length (now text) ≤ 256 ⌝ }
     ensures { λ r. ⌜ r ≤ 1 ⌝ }
 {
     let mut out = [OLD; 256];

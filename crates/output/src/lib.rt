@@ -2,7 +2,7 @@
 // behind what it wrote; its caller has shown that there is room.
 ghost use mathlib.Core.Path.{_≡_};
 ghost use mathlib.Core.List.{[], _∷_};
-ghost use Prim.Native.Nat.{_+_, _-_, _*_, _/_, _≤_, _<_, _^_, max};
+ghost use Prim.Native.Nat.{_+_, _-_, _*_, _/_, _≤_, _<_, _^_, max, min};
 ghost use lib.ListN.{length, replicate};
 ghost use Rattle.output.specs.Pieces.{leading, every};
 ghost use Rattle.output.specs.Writes.{Writes};
@@ -56,6 +56,13 @@ pub fn larger(a: usize, b: usize) -> usize
     ensures { λ r. ⌜ r ≡ max a b ⌝ }
 {
     if a < b { b } else { a }
+}
+
+// The smaller of two numbers.
+pub fn smaller(a: usize, b: usize) -> usize
+    ensures { λ r. ⌜ r ≡ min a b ⌝ }
+{
+    if b < a { b } else { a }
 }
 
 // Stores `byte` where `n` divides `k`, and nothing where not.

@@ -1,10 +1,9 @@
 // The functions over a slice of span records, for a program that has its records in an array by
-// value: the first `count` of them are lent.
+// value: the first `count` of them are lent, or all where there are no more.
 use blocks::Blocks;
 use listing::FormatAnnotatedOptions;
 use outcome::Export;
 use spans::Span;
-ghost use Prim.Native.Nat.{_≤_};
 ghost use lib.ListN.{length, take};
 ghost use Rattle.outcome.specs.Outcome.{Exports};
 ghost use Rattle.blocks.specs.Blocks.{blocksFound, Finds};
@@ -20,10 +19,10 @@ pub fn get_blocks(
     block_offsets: &mut [u32],
     block_sizes: &mut [u32],
 ) -> Blocks
-    requires { ⌜ count ≤ 4098 ⌝ }
     ensures { λ r. ⌜ Finds (blocksFound (offsetsOf (take count spans)) (sizesOf (take count spans)) (length (now («block_offsets» .entry))) (length (now («block_sizes» .entry)))) r (now («block_offsets» .entry)) (now («block_offsets» .exit)) (now («block_sizes» .entry)) (now («block_sizes» .exit)) ⌝ }
 {
-    record_hex::get_blocks(&spans[..count], block_offsets, block_sizes)
+    let n = output::smaller(count, 4098);
+    record_hex::get_blocks(&spans[..n], block_offsets, block_sizes)
 }
 
 // `record_hex::format_intelhex`.
@@ -35,10 +34,10 @@ pub fn format_intelhex(
     address_unit: usize,
     out: &mut [u8],
 ) -> Export
-    requires { ⌜ count ≤ 4098 ⌝ }
     ensures { λ r. ⌜ Exports (hexOutcome (now (image .entry)) bits (offsetsOf (take count spans)) (sizesOf (take count spans)) «address_unit» (length (now (out .entry)))) r (now (out .entry)) (now (out .exit)) ⌝ }
 {
-    record_hex::format_intelhex(image, bits, &spans[..count], address_unit, out)
+    let n = output::smaller(count, 4098);
+    record_hex::format_intelhex(image, bits, &spans[..n], address_unit, out)
 }
 
 // `record_listing::format_annotated`.
@@ -52,16 +51,8 @@ pub fn format_annotated<'a>(
     options: FormatAnnotatedOptions,
     out: &mut [u8],
 ) -> Export
-    requires { ⌜ count ≤ 4098 ⌝ }
     ensures { λ r. ⌜ Exports (annotatedOutcome (now (image .entry)) bits options (recordSpans (take count spans)) (now (firmware .entry)) (now (protocol .entry)) (length (now (out .entry)))) r (now (out .entry)) (now (out .exit)) ⌝ }
 {
-    record_listing::format_annotated(
-        image,
-        bits,
-        &spans[..count],
-        firmware,
-        protocol,
-        options,
-        out,
-    )
+    let n = output::smaller(count, 4098);
+    record_listing::format_annotated(image, bits, &spans[..n], firmware, protocol, options, out)
 }

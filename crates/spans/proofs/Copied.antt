@@ -35,14 +35,16 @@ pub copied : (w : Span → ℕ) (xs : List Span) (i : ℕ) → i < length xs
     → set (sets zeros 0 (take i (map w xs))) i (w (getD xs i no-span)) ≡ sets zeros 0 (take (i + 1) (map w xs))
 copied w xs i l = ap (set (sets zeros 0 (take i (map w xs))) i) (number-at w xs i l) ∙ sets-copied zeros (map w xs) i (omega (arith, map-length w xs))
 
--- The first so many, where no more are there than so many.
-take-count : (l : List ℕ) (m n : ℕ) → m ≡ length l → take (min m n) l ≡ take n l
-take-count l m n e = sym (take-take (min m n) n l (omega arith)) ∙ take-all (min m n) (take n l) (omega (arith, length-take n l))
+-- The first k, where no more are there than n.
+pub take-most : {A : Type 0} (l : List A) (k n : ℕ) → length l ≡ n → take (min k n) l ≡ take k l
+take-most l k n e = sym (take-take (min k n) k l (omega arith)) ∙ take-all (min k n) (take k l) (omega (arith, length-take k l))
 
 -- All are copied.
 all-copied : (w : Span → ℕ) (xs : List Span) → sets zeros 0 (take (min (length xs) 4097) (map w xs)) ≡ column (map w xs)
 unfolding column
-all-copied w xs = ap (sets zeros 0) (take-count (map w xs) (length xs) 4097 (sym (map-length w xs)))
+all-copied w xs =
+    let e : min (length xs) 4097 ≡ min 4097 (length xs) = omega arith in
+    ap (λ (k : ℕ). sets zeros 0 (take k (map w xs))) e ∙ ap (sets zeros 0) (take-most (map w xs) 4097 (length xs) (map-length w xs))
 
 pub columns-is : (xs : List Span)
     → record { offsets = sets zeros 0 (take (min (length xs) 4097) (offsetsOf xs)); sizes = sets zeros 0 (take (min (length xs) 4097) (sizesOf xs)); count = min (length xs) 4097 } ≡ columnsOf xs

@@ -31,16 +31,6 @@ pub struct Span {
     pub location: Location,
 }
 
-// The smaller of two numbers.
-fn smaller(a: usize, b: usize) -> usize
-    ensures { λ r. ⌜ r ≡ min a b ⌝ }
-{
-    if a < b {
-        return a;
-    }
-    b
-}
-
 // The number of a present offset: one below that of an absent one, where it would be the same.
 fn present(offset: u32) -> u32
     ensures { λ r. ⌜ r ≡ min offset 4294967294 ⌝ }
@@ -147,7 +137,7 @@ pub fn copy_columns(spans: &[Span]) -> Columns
 {
     let mut offsets: [u32; 4097] = [0; 4097];
     let mut sizes: [u32; 4097] = [0; 4097];
-    let count = smaller(spans.len(), 4097);
+    let count = output::smaller(spans.len(), 4097);
     let mut i: usize = 0;
     while i < count {
         let span = spans[i];
@@ -192,7 +182,7 @@ pub fn copy_listing_columns(spans: &[Span]) -> ListingColumns
     let mut files: [u8; 4097] = [0; 4097];
     let mut starts: [u64; 4097] = [0; 4097];
     let mut ends: [u64; 4097] = [0; 4097];
-    let count = smaller(spans.len(), 4097);
+    let count = output::smaller(spans.len(), 4097);
     let mut i: usize = 0;
     while i < count {
         let span = spans[i];

@@ -1,6 +1,5 @@
 // The recorded answers of Intel HEX and of the listing, through span records: the table of spans
 // becomes records, which are lent as a slice.
-ghost use Prim.Native.Nat.{_≤_};
 ghost use lib.ListN.{length};
 ghost use mathlib.Core.Path.{_≡_};
 use crate::column;
@@ -37,9 +36,7 @@ pub(crate) fn export_intelhex(
     n: usize,
     unit: usize,
     out: &mut [u8],
-) -> Export
-    requires { ⌜ n ≤ 32 ⌝ }
-{
+) -> Export {
     record_arrays::format_intelhex(image, bits, hex_spans(table), n, unit, out)
 }
 
@@ -68,9 +65,7 @@ pub(crate) fn export_rows<'a>(
     protocol: &'a [u8],
     options: FormatAnnotatedOptions,
     out: &mut [u8],
-) -> Export
-    requires { ⌜ n ≤ 9 ⌝ }
-{
+) -> Export {
     record_arrays::format_annotated(
         image,
         bits,

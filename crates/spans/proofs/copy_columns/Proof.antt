@@ -64,10 +64,10 @@ use Rattle.spans.proofs.Span as T
 use Rattle.spans.proofs.Span.Laws as T′
 use Rattle.spans.proofs.Columns as O
 use Rattle.spans.proofs.Columns.Laws as O′
-use Rattle.spans.proofs.smaller as smaller
-use Rattle.spans.proofs.smaller.Symbol as smaller-def
-use Rattle.spans.proofs.smaller.Symbol.{name as #smaller}
-use Rattle.spans.proofs.smaller.Met as smaller-thm
+use Rattle.output.proofs.smaller as smaller
+use Rattle.output.proofs.smaller.Symbol as smaller-def
+use Rattle.output.proofs.smaller.Symbol.{name as #smaller}
+use Rattle.output.proofs.smaller.Met as smaller-thm
 use Rattle.spans.proofs.Span.offset_number as f₁
 use Rattle.spans.proofs.Span.offset_number.Symbol as f₁-def
 use Rattle.spans.proofs.Span.offset_number.Symbol.{name as #f₁}
@@ -384,7 +384,7 @@ module _ {M : Type 1} (𝓤 : URA M) (H : Heap 𝓤) (A : Atoms 𝓤) (W : Given
       use0 W (raw (K-smaller 𝓤 H A W mem run .pre (to-smaller 𝓤 H A W mem run (length xs)))) (goes-smaller 𝓤 H A W mem run (length xs) (g₀ .0)) $
       calls-at ! (fmOf 𝓤 H (W .laws) 𝓣) (K-smaller 𝓤 H A W mem run) known-smaller (to-smaller 𝓤 H A W mem run (length xs)) (and-then ! (load ! (from ! (stop !)) (look ! 25 refl)) (and-then ! (local.big-lit ! (record { fits = lit< tt })) (no-more !))) (λ v.
       use1 W (later (some (λ (r : ℕ). (‵ ftrue ⊛ ‵ (usize .own r (v ∷ []))) ⊛ raw (ensured 𝓤 H A smaller.ended (smaller.clauses 𝓤 H A mem run) tt (length xs, (4097, tt)) tt r)))) (id⊢ 𝓤 _) $ await ! tt $ pick ! (λ r.
-      split ! $ move ! (1 ∷ []) $ use1 W (raw (fact 𝓤 (r ≡ n))) (says-smaller 𝓤 H A W mem run (length xs) r) $ heard ! (r ≡ n) (λ e. split ! $ drop ! $
+      split ! $ move ! (1 ∷ []) $ use1 W (raw (fact 𝓤 (r ≡ min (length xs) 4097))) (says-smaller 𝓤 H A W mem run (length xs) r) $ heard ! (r ≡ min (length xs) 4097) (λ e. split ! $ drop ! $
       peeks ! usize (Is usize) (shows 𝓤 H A usize) r (v ∷ []) (λ is. land ! (from ! (stop !)) (init ! 31 refl (uint-lawful 𝓤 H A W w64 .typed r _ is .0)) $ drop ! $
       rewrite ! 30 (λ (u : Val). ‵ (fat fullShare (tyInt w64) l₄ 0 u)) (ap only (is .0) ∙ ap (vint w64) e) refl $
       assigns ! (of-opd ! (lit ! tt)) (from ! (stop !)) (init ! 28 refl (tt, record { fits = lit< tt })) $
@@ -410,6 +410,6 @@ copy-columns-spec 𝓤 H 𝓜 𝓖 𝓡 =
     entered 𝓤 H (tripleOf 𝓤 H (𝓖 .A) it.signature (it.spec 𝓤 H (𝓖 .A) (𝓜 .mem) (𝓡 .run)))
     (tables 𝓤 H 𝓜 𝓡 code.env .C) (tables 𝓤 H 𝓜 𝓡 code.env .Λ) #it code.function (code.unfolded 𝓤 H 𝓜 𝓡)
     (meets 𝓤 H (𝓖 .A) (givenOf 𝓤 H 𝓜 𝓖) (𝓜 .mem) (𝓡 .run) (tablesOf 𝓤 H 𝓜 (tables 𝓤 H 𝓜 𝓡 code.env))
-    (cited 𝓤 H (K-smaller 𝓤 H (𝓖 .A) (givenOf 𝓤 H 𝓜 𝓖) (𝓜 .mem) (𝓡 .run)) 𝓜 𝓡 code.env #smaller smaller-def.routine code.calls-spans·smaller (smaller-thm.met 𝓤 H 𝓜 𝓖 𝓡))
+    (cited 𝓤 H (K-smaller 𝓤 H (𝓖 .A) (givenOf 𝓤 H 𝓜 𝓖) (𝓜 .mem) (𝓡 .run)) 𝓜 𝓡 code.env #smaller smaller-def.routine code.calls-output·smaller (smaller-thm.met 𝓤 H 𝓜 𝓖 𝓡))
     (cited 𝓤 H (K-f₁ 𝓤 H (𝓖 .A) (givenOf 𝓤 H 𝓜 𝓖) (𝓜 .mem) (𝓡 .run)) 𝓜 𝓡 code.env #f₁ f₁-def.routine code.calls-spans·Span·offset-number (f₁-thm.met 𝓤 H 𝓜 𝓖 𝓡))
     (cited 𝓤 H (K-new 𝓤 H (𝓖 .A) (givenOf 𝓤 H 𝓜 𝓖) (𝓜 .mem) (𝓡 .run)) 𝓜 𝓡 code.env #new new-def.routine code.calls-spans·Columns·new (new-thm.met 𝓤 H 𝓜 𝓖 𝓡)))
