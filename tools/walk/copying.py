@@ -38,8 +38,9 @@ def copying(crate, function, result, definition, columns, counted):
     ], [
         f"use Rattle.{crate}.specs.declared.{RECORD}.{{{RECORD}}}",
         f"use Rattle.{crate}.specs.declared.{result}.{{{result}}}",
-        f"use Rattle.{crate}.specs.Spans.{{{', '.join(dict.fromkeys(['zeros'] + [c[1].split()[0] for c in columns if 'Number' in c[1]]))}}}",
-        f"use Rattle.{crate}.proofs.Copied.{{{'no-span'}, copied, copied-length, zeros-length, {definition}-is}}",
+        f"use Rattle.{crate}.specs.Copies.{{zeros}}",
+        f"use Rattle.{crate}.specs.Spans.{{{', '.join(dict.fromkeys(c[1].split()[0] for c in columns if 'Number' in c[1]))}}}",
+        f"use Rattle.{crate}.proofs.Copied.{{no-span, copied, copied-length, {definition}-is}}",
         f"use Rattle.{crate}.proofs.Local as local",
         f"use Rattle.{crate}.proofs.{RECORD} as T",
         f"use Rattle.{crate}.proofs.{RECORD}.Laws as T′",

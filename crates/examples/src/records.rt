@@ -45,7 +45,7 @@ fn writes(name: &[u8], spans: [Span; 4098], count: usize, text: &[u8]) -> u64
     ensures { λ r. ⌜ r ≤ 1 ⌝ }
 {
     let mut out = [OLD; 256];
-    let answer = record_arrays::format_intelhex(&[0x11, 0x22], 16, spans, count, 8, &mut out);
+    let answer = arrays_of_spans::format_intelhex(&[0x11, 0x22], 16, spans, count, 8, &mut out);
     tell(name, gave(answer, &out, 0, text.len(), text))
 }
 
@@ -62,7 +62,14 @@ fn refuses(
     ensures { λ r. ⌜ r ≤ 1 ⌝ }
 {
     let mut out = [OLD; 256];
-    let answer = record_arrays::format_intelhex(&[0x11, 0x22], bits, spans, count, unit, &mut out);
+    let answer = arrays_of_spans::format_intelhex(
+        &[0x11, 0x22],
+        bits,
+        spans,
+        count,
+        unit,
+        &mut out,
+    );
     tell(name, gave(answer, &out, number, value, b""))
 }
 
@@ -169,7 +176,7 @@ fn lists(
     ensures { λ r. ⌜ r ≤ 1 ⌝ }
 {
     let mut out = [OLD; 256];
-    let answer = record_arrays::format_annotated(
+    let answer = arrays_of_spans::format_annotated(
         &[0x12],
         8,
         spans,
@@ -236,7 +243,7 @@ fn one_block() -> u64
     let none = bare(Offset::Absent, 8);
     let mut offsets = [7; 2];
     let mut sizes = [7; 2];
-    let found = record_arrays::get_blocks(three(two, none, one), 3, &mut offsets, &mut sizes);
+    let found = arrays_of_spans::get_blocks(three(two, none, one), 3, &mut offsets, &mut sizes);
     let one_found = match found {
         Blocks::Found(count) => count == 1,
         Blocks::SpanRange(_) => false,

@@ -11,7 +11,8 @@ use Rattle.ordering.proofs.Lists.{map-length, sets-copied}
 use Rattle.spans.specs.declared.Offset.the-variants.{Absent}
 use Rattle.spans.specs.declared.Location.the-variants.{Nowhere}
 use Rattle.spans.specs.declared.Span.{Span}
-use Rattle.spans.specs.Spans.{offsetNumber, startNumber, endNumber, zeros, column, offsetsOf, sizesOf, addrsOf, filesOf, startsOf, endsOf, columnsOf, listingColumnsOf}
+use Rattle.spans.specs.Copies.{zeros, column, columnsOf, listingColumnsOf}
+use Rattle.spans.specs.Spans.{offsetNumber, startNumber, endNumber, offsetsOf, sizesOf, addrsOf, filesOf, startsOf, endsOf}
 
 -- The record that stands past the end of a list.
 abbrev pub no-span : Span

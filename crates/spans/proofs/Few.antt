@@ -12,7 +12,8 @@ use Rattle.output.proofs.Order.{by-order}
 use Rattle.ordering.proofs.Lists.{map-length, sets-front}
 use Rattle.span_range.specs.Range.{longList, spansChecked}
 use Rattle.spans.specs.declared.Span.{Span}
-use Rattle.spans.specs.Spans.{offsetNumber, startNumber, endNumber, offsetsOf, sizesOf, addrsOf, filesOf, startsOf, endsOf, zeros, column, columnsOf, listingColumnsOf}
+use Rattle.spans.specs.Copies.{zeros, column, columnsOf, listingColumnsOf}
+use Rattle.spans.specs.Spans.{offsetNumber, startNumber, endNumber, offsetsOf, sizesOf, addrsOf, filesOf, startsOf, endsOf}
 use Rattle.spans.proofs.Copied.{zeros-length}
 
 -- The front of a column.

@@ -1,11 +1,8 @@
--- The span record as the numbers of the core (document 01, "What an exporter is lent"; the Rust's `BitVecSpan`), and what is copied of a slice
--- of records.
+-- The span record as the numbers of the core (document 01, "What an exporter is lent"; the Rust's `BitVecSpan`).
 use mathlib.Core.Bool.{Bool, false, cond}
 use mathlib.Core.List.{List, map}
 use Prim.Native.Nat.{ℕ, _+_, min}
 use lib.Dec.{eqb, ltb}
-use lib.ListN.{length, take, replicate}
-use lib.Seq.{sets}
 use Rattle.bitvec.specs.Size.{maxBits}
 use Rattle.ordering.specs.Order.{absent}
 use Rattle.spans.specs.declared.Offset.{Offset}
@@ -13,8 +10,6 @@ use Rattle.spans.specs.declared.Offset.the-variants.{At, Absent}
 use Rattle.spans.specs.declared.Location.{Location}
 use Rattle.spans.specs.declared.Location.the-variants.{In, Nowhere}
 use Rattle.spans.specs.declared.Span.{Span}
-use Rattle.spans.specs.declared.Columns.{Columns}
-use Rattle.spans.specs.declared.ListingColumns.{ListingColumns}
 
 -- A present offset is its own number, but for the one that says absent: it is too large, as the number below it is.
 abbrev pub offsetNumber : Offset → ℕ
@@ -60,17 +55,3 @@ startsOf spans = map (λ s. startNumber (s .location)) spans
 
 abbrev pub endsOf : List Span → List ℕ
 endsOf spans = map (λ s. endNumber (s .location)) spans
-
--- The first 4,097 numbers of a list at the front of an array of zeros.
-unfoldable pub zeros : List ℕ
-zeros = replicate 4097 0
-
-unfoldable pub column : List ℕ → List ℕ
-column numbers = sets zeros 0 (take 4097 numbers)
-
--- What is copied of records for the blocks, and what the listing needs besides.
-unfoldable pub columnsOf : List Span → Columns
-columnsOf spans = record { offsets = column (offsetsOf spans); sizes = column (sizesOf spans); count = min (length spans) 4097 }
-
-unfoldable pub listingColumnsOf : List Span → ListingColumns
-listingColumnsOf spans = record { addrs = column (addrsOf spans); files = column (filesOf spans); starts = column (startsOf spans); ends = column (endsOf spans) }

@@ -2,8 +2,8 @@
 // of a slice as columns of numbers, which is how the core takes them.
 ghost use mathlib.Core.Path.{_≡_};
 ghost use Prim.Native.Nat.{min};
-ghost use lib.ListN.{length};
-ghost use Rattle.spans.specs.Spans.{offsetNumber, startNumber, endNumber, offsetFrom, locationFrom, columnsOf, listingColumnsOf};
+ghost use Rattle.spans.specs.Copies.{columnsOf, listingColumnsOf};
+ghost use Rattle.spans.specs.Spans.{offsetNumber, startNumber, endNumber, offsetFrom, locationFrom};
 use ordering::ABSENT;
 
 // The start and the end of no location, as in the Rust.

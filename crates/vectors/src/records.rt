@@ -37,7 +37,7 @@ pub(crate) fn export_intelhex(
     unit: usize,
     out: &mut [u8],
 ) -> Export {
-    record_arrays::format_intelhex(image, bits, hex_spans(table), n, unit, out)
+    arrays_of_spans::format_intelhex(image, bits, hex_spans(table), n, unit, out)
 }
 
 // The records of a listing's table.
@@ -66,7 +66,7 @@ pub(crate) fn export_rows<'a>(
     options: FormatAnnotatedOptions,
     out: &mut [u8],
 ) -> Export {
-    record_arrays::format_annotated(
+    arrays_of_spans::format_annotated(
         image,
         bits,
         listing_spans(table),
