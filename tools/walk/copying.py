@@ -329,18 +329,13 @@ fails false _ = refl
             e += f"        {record.owned('elem', 'mach elem', 'g')}use1 W (raw (K-{f} {P} .pre (to-{f} {P} elem))) (goes-{f} {P} elem) $\n"
             cx.head(0, "pre")
             e += f"        calls-at ! (fmOf 𝓤 H (W .laws) 𝓣) (K-{f} {P}) known-{f} (to-{f} {P} elem) {operands([cx.cell('span')])} (λ v{s}.\n"
-            e += f"        use1 W (later (some (λ (r : ℕ). (‵ ftrue ⊛ ‵ ({t} .own r (v{s} ∷ []))) ⊛ raw (ensured 𝓤 H A {f}.ended ({f}.clauses 𝓤 H A mem run) tt (elem, tt) tt r)))) (id⊢ 𝓤 _) $ await ! tt $ pick ! (λ r{s}.\n"
-            e += f"        split ! $ move ! (1 ∷ []) $ use1 W (raw (fact 𝓤 (r{s} ≡ {new}))) (says-{f} {P} elem r{s}) $ heard ! (r{s} ≡ {new}) (λ e{s}. split ! $ drop ! $\n"
-            e += f"        {u(j).peeks(f'r{s}', f'v{s}', f'is{s}')}land ! ({HERE}) ({put(v)} ({u(j).lawful(f'r{s}', f'is{s}')})) $ drop ! $\n"
-            cx.head(1)
-            e += f"        rewrite ! {cx.at(v)} (λ (u : Val). ‵ (fat fullShare (tyInt {wd}) {block(v)} 0 u)) (ap only (is{s} .0) ∙ ap (vint {wd}) e{s}) refl $\n"
+            said, open_ = w.numbered(cx, f, "elem", "(elem, tt)", new, u(j), s, put, v, block(v), "        ")
+            e += said
             fact = f"subst (λ (k : ℕ). k < 2 ^ {bits(j)}) e{s} (is{s} .1)"
-            source = cx.cell(v)
-            close += 4
+            close += open_
         else:
             field = columns[j - 1][2]
             fact = f"LL.owed T.the-type T′.the-laws elem (mach elem ∷ []) g{' .1' * field} .0 .1"
-            source = cx.part("span", field)
         if bits(j) > 8:
             e += times(f"fits-{bits(j) // 8} (i .0) (in-array (i .0) l)")
         e += f"        assigns ! (addr ! ({HERE})) ({HERE}) (init ! {cx.at(f'b{j}')} refl (tt, tt)) $\n"

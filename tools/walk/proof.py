@@ -145,17 +145,26 @@ class Walk:
 """)
 
     @staticmethod
+    def numbered(cx, callee, argument, arguments, value, type_, mark, put, target, block, indent):
+        """After a call that returns a number: the number in a local, as the value that the callee says it is; and how many brackets are open, that of the call
+        too. MARK tells the names of one call from those of another."""
+        width = type_.mir.split()[1]
+        e = f"{indent}use1 W (later (some (λ (r : ℕ). (‵ ftrue ⊛ ‵ ({type_.row} .own r (v{mark} ∷ []))) ⊛ raw (ensured 𝓤 H A {callee}.ended ({callee}.clauses 𝓤 H A mem run) tt {arguments} tt r)))) (id⊢ 𝓤 _) $ await ! tt $ pick ! (λ r{mark}.\n"
+        e += f"{indent}split ! $ move ! (1 ∷ []) $ use1 W (raw (fact 𝓤 (r{mark} ≡ {value}))) (says-{callee} {P} {argument} r{mark}) $ heard ! (r{mark} ≡ {value}) (λ e{mark}. split ! $ drop ! $\n"
+        e += f"{indent}{type_.peeks(f'r{mark}', f'v{mark}', f'is{mark}')}land ! ({HERE}) ({put(target)} ({type_.lawful(f'r{mark}', f'is{mark}')})) $ drop ! $\n"
+        cx.head(1)
+        e += f"{indent}rewrite ! {cx.at(target)} (λ (u : Val). ‵ (fat fullShare ({type_.mir}) {block} 0 u)) (ap only (is{mark} .0) ∙ ap (vint {width}) e{mark}) refl $\n"
+        return e, 4
+
+    @staticmethod
     def at_most(cx, number, fits, source, target, block, bound):
         """The call of `smaller` on a local that holds a number, and its result in another local; and how many brackets are open."""
         e = f"      use0 W (raw (K-smaller {P} .pre (to-smaller {P} {number}))) (goes-smaller {P} {number} {fits}) $\n"
         cx.head(0, "pre")
         e += f"      calls-at ! (fmOf 𝓤 H (W .laws) 𝓣) (K-smaller {P}) known-smaller (to-smaller {P} {number}) {operands([cx.cell(source), 'local.big-lit ! (record { fits = lit< tt })'])} (λ v.\n"
-        e += f"      use1 W (later (some (λ (r : ℕ). (‵ ftrue ⊛ ‵ (usize .own r (v ∷ []))) ⊛ raw (ensured 𝓤 H A smaller.ended (smaller.clauses 𝓤 H A mem run) tt ({number.strip('()')}, ({bound}, tt)) tt r)))) (id⊢ 𝓤 _) $ await ! tt $ pick ! (λ r.\n"
-        e += f"      split ! $ move ! (1 ∷ []) $ use1 W (raw (fact 𝓤 (r ≡ min {number} {bound}))) (says-smaller {P} {number} r) $ heard ! (r ≡ min {number} {bound}) (λ e. split ! $ drop ! $\n"
-        e += f"      {USIZE.peeks('r', 'v', 'is')}land ! ({HERE}) (init ! {cx.at(target)} refl ({USIZE.lawful('r', 'is')})) $ drop ! $\n"
-        cx.head(1)
-        e += f"      rewrite ! {cx.at(target)} (λ (u : Val). ‵ (fat fullShare (tyInt w64) {block} 0 u)) (ap only (is .0) ∙ ap (vint w64) e) refl $\n"
-        return e, 4
+        put = lambda n: f"init ! {cx.at(n)} refl"
+        said, open_ = Walk.numbered(cx, "smaller", number, f"({number.strip('()')}, ({bound}, tt))", f"min {number} {bound}", USIZE, "", put, target, block, "      ")
+        return e + said, open_
 
     def known(self, tables="𝓣 .C"):
         return "".join(f" (known-{a} : Triple 𝓤 ({tables} #{a}) (K-{a} {P}))" for a, _, _ in self.callees)
