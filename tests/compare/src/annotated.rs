@@ -164,13 +164,14 @@ pub fn family() -> Family {
 
 /// Tries a list on an image of so many bits, in every way.
 fn try_list(checker: &mut Checker, listing: Listing, bits: usize) {
-    let image = Image::random(&mut checker.rng, bits);
-    let lendings = image.lendings(&mut checker.rng);
-    checker.image(&Annotated { listing }, &image, &lendings);
+    checker.random(&Annotated { listing }, bits);
 }
 
 /// Tries a list on an image of so many bits, in few ways.
 fn try_once(checker: &mut Checker, listing: Listing, bits: usize) {
+    if checker.skips() {
+        return;
+    }
     let image = Image::random(&mut checker.rng, bits);
     let lent = image.lend(&mut checker.rng, RANDOM, bits % 3);
     let annotated = Annotated { listing };
@@ -398,6 +399,9 @@ pub fn huge(checker: &mut Checker, _: &[Family]) {
 }
 
 fn too_long(checker: &mut Checker, listing: Listing) {
+    if checker.skips() {
+        return;
+    }
     let annotated = Annotated { listing };
     assert!(annotated.refusal(1, 5).is_none());
     checker.too_long(&annotated, &[0xff], 5, annotated.listing.text_len());
@@ -541,6 +545,9 @@ fn each_option(checker: &mut Checker, list: &Listing) {
 
 /// Refusal 1 with whatever else is refused.
 fn too_many_bits(checker: &mut Checker, listing: &Listing) {
+    if checker.skips() {
+        return;
+    }
     let annotated = Annotated { listing: listing.clone() };
     for (lent, bits) in [(&[][..], 1), (&[0xff; 3][..], 25), (&[0xff; 3][..], usize::MAX)] {
         checker.refused(&annotated, lent, bits);

@@ -1,5 +1,6 @@
 //! The functions of include/riceshoal.h, and a safe function around each.
 
+use crate::lend::{Lent, Room};
 use crate::listing::Columns;
 
 mod raw {
@@ -162,42 +163,54 @@ pub struct Answer {
 /// An answer before the call, so that a value that is not stored is seen.
 const UNSET: Answer = Answer { code: 0xa5a5_a5a5, value: 0xa5a5_a5a5_a5a5_a5a5, padded: 0xa5 };
 
-/// The answer of a function of the library, which is lent the image, its options and the output
-/// buffer.
+impl Answer {
+    /// The bytes that are written to the output buffer.
+    fn text_len(&self) -> usize {
+        if self.code == 0 {
+            self.value as usize
+        } else {
+            0
+        }
+    }
+}
+
+/// The answer of a function of the library, which is lent the image, its options, the output buffer
+/// and what comes after it.
 macro_rules! call {
-    ($function:ident($image:ident, $bits:ident $(, $option:expr)* ; $out:ident)) => {{
+    (
+        $function:ident(
+            $image:ident, $bits:ident $(, $option:expr)* ; $out:ident $(, $more:expr)*
+        )
+    ) => {{
         let mut answer = Answer { padded: 0, ..UNSET };
+        let (image, out) = (Lent::new($image), Room::new($out));
+        let value = Room::one(&mut answer.value);
         // Safe: the slices are lent for the call, and what is written overlaps nothing else.
-        answer.code = unsafe {
+        let code = unsafe {
             raw::$function(
-                $image.as_ptr(),
-                $image.len(),
+                image.ptr(),
+                image.len(),
                 $bits,
                 $($option,)*
-                $out.as_mut_ptr(),
-                $out.len(),
-                &mut answer.value,
+                out.ptr(),
+                out.len(),
+                value.ptr(),
+                $($more,)*
             )
         };
+        value.back(1);
+        answer.code = code;
+        out.back(answer.text_len());
         answer
     }};
 }
 
 pub fn format_binary(image: &[u8], bits: usize, out: &mut [u8]) -> Answer {
-    let mut answer = UNSET;
-    // Safe: as above.
-    answer.code = unsafe {
-        raw::riceshoal_format_binary(
-            image.as_ptr(),
-            image.len(),
-            bits,
-            out.as_mut_ptr(),
-            out.len(),
-            &mut answer.value,
-            &mut answer.padded,
-        )
-    };
-    answer
+    let mut stored = UNSET.padded;
+    let padded = Room::one(&mut stored);
+    let answer = call!(riceshoal_format_binary(image, bits; out, padded.ptr()));
+    padded.back(1);
+    Answer { padded: stored, ..answer }
 }
 
 pub fn format_str(image: &[u8], bits: usize, bits_per_digit: usize, out: &mut [u8]) -> Answer {
@@ -219,8 +232,8 @@ pub fn format_separator(
     separator: &[u8],
     out: &mut [u8],
 ) -> Answer {
-    let (string, len) = parts(separator);
-    call!(riceshoal_format_separator(image, bits, radix, string, len; out))
+    let s = Lent::new(separator);
+    call!(riceshoal_format_separator(image, bits, radix, s.ptr(), s.len(); out))
 }
 
 pub fn format_c_array(image: &[u8], bits: usize, radix: usize, out: &mut [u8]) -> Answer {
@@ -236,9 +249,10 @@ pub fn format_list(
     strings: [&[u8]; 4],
     out: &mut [u8],
 ) -> Answer {
-    let [(s, n), (s2, n2), (s3, n3), (s4, n4)] = strings.map(parts);
+    let [s, s2, s3, s4] = strings.map(Lent::new);
     call!(riceshoal_format_list(
-        image, bits, base, digits, groups, s, n, s2, n2, s3, n3, s4, n4; out
+        image, bits, base, digits, groups, s.ptr(), s.len(), s2.ptr(), s2.len(), s3.ptr(),
+        s3.len(), s4.ptr(), s4.len(); out
     ))
 }
 
@@ -268,8 +282,10 @@ pub fn format_intelhex(
     address_unit: usize,
     out: &mut [u8],
 ) -> Answer {
-    let ((o, n), (s, m)) = (parts(offsets), parts(sizes));
-    call!(riceshoal_format_intelhex(image, bits, o, n, s, m, address_unit; out))
+    let (o, s) = (Lent::new(offsets), Lent::new(sizes));
+    call!(riceshoal_format_intelhex(
+        image, bits, o.ptr(), o.len(), s.ptr(), s.len(), address_unit; out
+    ))
 }
 
 /// The texts are the firmware's and the protocol's; the numbers are the base, the address base and
@@ -283,17 +299,13 @@ pub fn format_annotated(
     labels: u8,
     out: &mut [u8],
 ) -> Answer {
-    let ((o, n), (s, n2)) = (parts(&columns.spans.offsets), parts(&columns.spans.sizes));
-    let ((a, n3), (f, n4)) = (parts(&columns.addrs), parts(&columns.files));
-    let ((b, n5), (e, n6)) = (parts(&columns.starts), parts(&columns.ends));
-    let [(t, n7), (t2, n8)] = texts.each_ref().map(|text| parts(text));
+    let [o, s] = [&columns.spans.offsets, &columns.spans.sizes].map(|numbers| Lent::new(numbers));
+    let [a, b, e] =
+        [&columns.addrs, &columns.starts, &columns.ends].map(|numbers| Lent::new(numbers));
+    let [f, t, t2] = [&columns.files, &texts[0], &texts[1]].map(|bytes| Lent::new(bytes));
     call!(riceshoal_format_annotated(
-        image, bits, o, n, s, n2, a, n3, f, n4, b, n5, e, n6, t, n7, t2, n8, base, addr_base,
+        image, bits, o.ptr(), o.len(), s.ptr(), s.len(), a.ptr(), a.len(), f.ptr(), f.len(),
+        b.ptr(), b.len(), e.ptr(), e.len(), t.ptr(), t.len(), t2.ptr(), t2.len(), base, addr_base,
         digits, labels; out
     ))
-}
-
-/// A string or a list as C has it.
-fn parts<T>(slice: &[T]) -> (*const T, usize) {
-    (slice.as_ptr(), slice.len())
 }

@@ -1,9 +1,11 @@
 //! One call of our library held against what is expected: the answer, the text, and every byte
-//! around it. Counts the calls and prints the first differences.
+//! around it. Counts the calls and prints the first differences. A run may try a sample alone.
 
 use crate::capi::Answer;
 use crate::input::{hex, Image, Rng};
 use reference::util::BitVec;
+use std::ptr::null_mut;
+use std::sync::atomic::{AtomicPtr, Ordering};
 
 /// The most bits an image may have.
 pub const LIMIT: usize = 16_777_216;
@@ -75,6 +77,10 @@ pub struct Family {
 
 pub struct Checker {
     pub rng: Rng,
+    /// Of so many inputs one is tried.
+    pub one_in: usize,
+    /// Draws the sample, so that `rng` gives the same inputs where all are tried.
+    sample: Rng,
     pub calls: u64,
     pub differences: u64,
     /// The buffer with its guards as it should be after the call, and as it is.
@@ -92,15 +98,49 @@ struct Call<'a> {
     text: &'a [u8],
 }
 
+/// The call that is being made, if any.
+static RUNNING: AtomicPtr<Call> = AtomicPtr::new(null_mut());
+
+/// The call that is being made, if any, in words.
+pub fn running() -> Option<String> {
+    // Safe: a call is stored for as long as it lives.
+    unsafe { RUNNING.load(Ordering::Relaxed).as_ref() }.map(Call::describe)
+}
+
+impl Call<'_> {
+    fn describe(&self) -> String {
+        let (name, lent) = (self.exporter.name(), self.lent);
+        let (bits, len, room) = (self.bits, lent.len(), self.room);
+        format!("{name}, bits {bits}, image of {len} bytes {}, room {room}", cut(lent))
+    }
+}
+
 impl Checker {
     pub fn new(seed: u64) -> Checker {
         Checker {
             rng: Rng::new(seed),
+            one_in: 1,
+            sample: Rng::new(seed),
             calls: 0,
             differences: 0,
             expected: Vec::new(),
             buffer: Vec::new(),
         }
+    }
+
+    /// Whether the next input is not in the sample.
+    pub fn skips(&mut self) -> bool {
+        self.one_in > 1 && self.sample.below(self.one_in) > 0
+    }
+
+    /// A random image of so many bits in every way, if it is in the sample.
+    pub fn random(&mut self, exporter: &dyn Exporter, bits: usize) {
+        if self.skips() {
+            return;
+        }
+        let image = Image::random(&mut self.rng, bits);
+        let lendings = image.lendings(&mut self.rng);
+        self.image(exporter, &image, &lendings);
     }
 
     /// An image in each of its lendings, and for each of them in every room.
@@ -173,7 +213,9 @@ impl Checker {
         self.expected[front..front + call.text.len()].copy_from_slice(call.text);
 
         let out = &mut self.buffer[front..front + call.room];
+        RUNNING.store(&call as *const Call as *mut Call, Ordering::Relaxed);
         let got = call.exporter.ours(call.lent, call.bits, out);
+        RUNNING.store(null_mut(), Ordering::Relaxed);
         self.calls += 1;
         if got != call.answer || self.buffer != self.expected {
             self.differences += 1;
@@ -184,16 +226,8 @@ impl Checker {
     }
 
     fn report(&self, call: &Call, got: Answer, front: usize) -> String {
-        let mut line = format!(
-            "difference: {}, bits {}, image of {} bytes {}, room {}: expected {}, got {}",
-            call.exporter.name(),
-            call.bits,
-            call.lent.len(),
-            cut(call.lent),
-            call.room,
-            show(call.answer),
-            show(got)
-        );
+        let (expected, got) = (show(call.answer), show(got));
+        let mut line = format!("difference: {}: expected {expected}, got {got}", call.describe());
         if let Some(at) = (0..self.buffer.len()).find(|&i| self.buffer[i] != self.expected[i]) {
             line += &format!(
                 "; buffer from byte {} on: expected {}, got {}",
