@@ -1,70 +1,48 @@
--- `bitvec::read_bits` meets its contract: after k turns the digit is that of the first k bits.
+-- `bitvec::read_bits` meets its contract: bit by bit near the end, and else out of two bytes.
 -- Assumes nothing.
-use mathlib.Core.Path.{_≡_, refl, ap, _∙_}
-use Prim.Native.Nat.{_+_, _-_, _≤_}
+use mathlib.Core.Path.{_≡_}
+use Prim.Native.Nat.{_+_, _*_, _/_, _%_}
 use native.Mathlib.Omega.{arith}
 use borrow.Author.Needs.{needs}
-use Rattle.bitvec.specs.Bits.{bitsAt}
-use Rattle.bitvec.proofs.Bits.{bits-next, bits-below, bit-small}
 use Rattle.bitvec.proofs.read_bits.Statement.{statement}
 use Rattle.bitvec.proofs.read_bits.Tie as tie
 
-abbrev Inv-loop : tie.InvT-loop
-Inv-loop bytes len width index digit₀ k₀ digit k = (k ≤ width) × (digit ≡ bitsAt bytes len index k)
+add-if1 : tie.Need-add-if1
+add-if1 c = search needs
 
-abbrev μ-loop : tie.MeasureT-loop
-μ-loop bytes len width index digit₀ k₀ digit k = width - k
+read-each-requires : tie.Need-read-each-requires
+read-each-requires c κs = search needs
 
-loop-holds : tie.Need-loop-holds Inv-loop μ-loop
-unfolding bitsAt
-loop-holds c = (search needs, refl)
+returns : tie.Need-returns
+returns c = search needs
 
-mul-digit : tie.Need-mul-digit Inv-loop μ-loop
-mul-digit c =
-    let l = c .before in
-    let a = l .before .before .args in
-    omega (arith, bits-below (a .bytes .now) (a .len) (a .offset .0) (l .loop .k) 7 (omega arith))
+add-if2 : tie.Need-add-if2
+add-if2 c = search needs
 
-add-t11 : tie.Need-add-t11 Inv-loop μ-loop
-add-t11 c = search needs
+read-each-requires-2 : tie.Need-read-each-requires-2
+read-each-requires-2 c κs = search needs
 
-read-bit-requires : tie.Need-read-bit-requires Inv-loop μ-loop
-read-bit-requires c κs = search needs
+returns-2 : tie.Need-returns-2
+returns-2 c = search needs
 
-add-digit : tie.Need-add-digit Inv-loop μ-loop
-add-digit c =
-    let l = c .before .before in
-    let a = l .before .before .args in
-    omega
-    (arith, bits-below (a .bytes .now) (a .len) (a .offset .0) (l .loop .k) 7 (omega arith), bit-small (a .bytes .now) (a .len) (a .offset .0 + l .loop .k))
+read-across-requires : tie.Need-read-across-requires
+read-across-requires c κs = search needs
 
-add-k : tie.Need-add-k Inv-loop μ-loop
-add-k c = search needs
-
-loop-less : tie.Need-loop-less Inv-loop μ-loop
-loop-less c = search needs
-
-loop-again : tie.Need-loop-again Inv-loop μ-loop
-loop-again c = (search needs, rw bits-next (rw (← c .before .before .loop .inv .1, ← c .read-bit .ensures)))
-
-returns : tie.Need-returns Inv-loop μ-loop
-returns c =
-    let l = c .before in
-    let a = l .before .before .args in
-    l .loop .inv .1 ∙ ap (bitsAt (a .bytes .now) (a .len) (a .offset .0)) (omega arith)
+returns-3 : tie.Need-returns-3
+returns-3 c =
+    let i = c .before .before .before .before .args .offset .0 in
+    let place : i / 8 * 8 + i % 8 ≡ i = omega arith in
+    rw place at (c .read-across .ensures)
 
 pub read-bits-spec : {M : Type 1} → statement M
 read-bits-spec =
     tie.close
     (tie.spec
-    Inv-loop
-    μ-loop
-    loop-holds
-    mul-digit
-    add-t11
-    read-bit-requires
-    add-digit
-    add-k
-    loop-less
-    loop-again
-    returns)
+    add-if1
+    read-each-requires
+    returns
+    add-if2
+    read-each-requires-2
+    returns-2
+    read-across-requires
+    returns-3)
