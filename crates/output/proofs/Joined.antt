@@ -1,8 +1,8 @@
 -- Laws of items with a text between each two.
 -- Assumes nothing.
-use mathlib.Core.Path.{_≡_, refl, _∙_}
+use mathlib.Core.Path.{_≡_, refl, sym, ap, _∙_}
 use mathlib.Core.Bool.{Bool, true, false, cond}
-use mathlib.Core.List.{List, [], _++_}
+use mathlib.Core.List.{List, [], _++_, append-assoc}
 use Prim.Native.Nat.{ℕ, zero, suc, _+_, _-_, _*_, _/_, _%_, _≤_, _<_}
 use native.Mathlib.Numerals.{add-one}
 use native.Mathlib.Nat.{div-add-mod', mod-lt, div-eq-of-lt-le, suc-mul, zero-div, div-le-self, mul-le-mul, add-zero, add-sub-cancel}
@@ -111,3 +111,20 @@ between-small d a b n m c l p q =
       mul-le-mul {n₁ = (n - 1) / d} {m₁ = a} {n₂ = m} {m₂ = c} (omega arith) p,
       mul-le-mul {n₁ = (n - 1) - (n - 1) / d} {m₁ = b} {n₂ = m} {m₂ = c} (omega arith) q,
     )
+
+-- Items with one text s between them, behind what stands before the first of them.
+pub joined-alike : (between item : ℕ → List ℕ) (s : List ℕ) (k n : ℕ) → ((j : ℕ) → k < j → j ≤ k + n → leading between j ≡ s)
+    → joined between item (k + n + 1) ≡ (joined between item k ++ leading between k) ++ (pieces (λ j. item (k + j) ++ s) n ++ item (k + n))
+unfolding pieces
+joined-alike between item s k zero e = rw (add-zero k, joined-next) (sym (append-assoc (joined between item k) (leading between k) (item k)))
+joined-alike between item s k (suc n) e =
+    let place : k + suc n ≡ k + n + 1 = omega arith in
+    let front = joined between item k ++ leading between k in
+    let rows = pieces (λ j. item (k + j) ++ s) n in
+    let last = item (k + n + 1) in
+    rw (place, joined-next, e (k + n + 1) (omega arith) (omega arith), joined-alike between item s k n (λ j l m. e j l (omega arith)))
+    (append-assoc front (rows ++ item (k + n)) (s ++ last)
+    ∙ ap (λ (t : List ℕ). front ++ t)
+    (append-assoc rows (item (k + n)) (s ++ last)
+    ∙ ap (λ (t : List ℕ). rows ++ t) (sym (append-assoc (item (k + n)) s last))
+    ∙ sym (append-assoc rows (item (k + n) ++ s) last)))

@@ -1,14 +1,14 @@
 -- Laws of texts that are made of numbered pieces.
 -- Assumes nothing.
 use mathlib.Core.Path.{_≡_, refl, sym, ap, _∙_}
-use mathlib.Core.List.{List, [], _++_}
+use mathlib.Core.List.{List, [], _∷_, _++_, append-nil, append-assoc}
 use mathlib.Core.Logic.{_↔_}
 use Prim.Native.Nat.{ℕ, zero, suc, _+_, _*_, _≤_, _<_}
 use native.Mathlib.Omega.{arith}
 use native.Mathlib.Numerals.{add-one}
-use native.Mathlib.Nat.{suc-mul, zero-mul}
-use lib.ListN.{length, take, drop, length-append}
-use lib.Seq.{take-at, drop-at}
+use native.Mathlib.Nat.{add-zero, add-suc, suc-mul, zero-mul, mul-le-mul-right}
+use lib.ListN.{length, getD, take, drop, length-append, List·getD-append}
+use lib.Seq.{take-at, drop-at, getD-append-add}
 use borrow.Author.Count.{below-none, below-more}
 use Rattle.output.specs.Pieces.{pieces}
 use Rattle.output.proofs.Order.{by-order}
@@ -21,6 +21,12 @@ pieces-none f = refl
 pub pieces-next : (f : ℕ → List ℕ) (n : ℕ) → pieces f (n + 1) ≡ pieces f n ++ f n
 unfolding pieces
 pieces-next f n = rw add-one
+
+-- More pieces.
+pub pieces-append : (f : ℕ → List ℕ) (n m : ℕ) → pieces f (n + m) ≡ pieces f n ++ pieces (λ k. f (n + k)) m
+unfolding pieces
+pieces-append f n zero = rw add-zero (sym (append-nil (pieces f n)))
+pieces-append f n (suc m) = rw (add-suc n m, pieces-append f n m) (append-assoc (pieces f n) (pieces (λ k. f (n + k)) m) (f (n + m)))
 
 -- The length, where each of the pieces has one length.
 pub pieces-length : (f : ℕ → List ℕ) (k n : ℕ) → ((i : ℕ) → i < n → length (f i) ≡ k) → length (pieces f n) ≡ n * k
@@ -68,3 +74,32 @@ equal-pieces f g (suc n) l e =
 -- Where the pieces have equal lengths, place by place, two texts are equal exactly when their pieces are.
 pub pieces-same : (f g : ℕ → List ℕ) (n : ℕ) → ((i : ℕ) → length (f i) ≡ length (g i)) → (pieces f n ≡ pieces g n) ↔ ((i : ℕ) → i < n → f i ≡ g i)
 pieces-same f g n l = (equal-pieces f g n l, pieces-equal f g n)
+
+-- Character j of piece k, where each of the pieces has one length: how a table that holds such a text is read.
+pub pieces-at : (f : ℕ → List ℕ) (m n : ℕ) → ((i : ℕ) → i < n → length (f i) ≡ m) → (k j : ℕ) → k < n → j < m
+    → getD (pieces f n) (k * m + j) 0 ≡ getD (f k) j 0
+unfolding pieces
+pieces-at f m zero e k j h l = absurd (omega arith)
+pieces-at f m (suc n) e k j h l =
+    by-order k n
+    (λ b.
+    List·getD-append (pieces f n) (f n) 0 (k * m + j) (omega (arith, before, mul-le-mul-right m b, suc-mul k m))
+    ∙ pieces-at f m n (λ i b. e i (omega arith)) k j b l)
+    (λ b.
+    let last : k ≡ n = omega arith in
+    rw (last, ← before) (getD-append-add (pieces f n) (f n) j 0))
+  where
+    before : length (pieces f n) ≡ n * m
+    before = pieces-length f m n (λ i b. e i (omega arith))
+
+-- A text of one character, and one of two.
+pub text-of-one : (s : List ℕ) → length s ≡ 1 → getD s 0 0 ∷ [] ≡ s
+text-of-one [] h = absurd (omega arith)
+text-of-one (x ∷ []) h = refl
+text-of-one (x ∷ y ∷ s) h = absurd (omega arith)
+
+pub text-of-two : (s : List ℕ) → length s ≡ 2 → getD s 0 0 ∷ getD s 1 0 ∷ [] ≡ s
+text-of-two [] h = absurd (omega arith)
+text-of-two (x ∷ []) h = absurd (omega arith)
+text-of-two (x ∷ y ∷ []) h = refl
+text-of-two (x ∷ y ∷ z ∷ s) h = absurd (omega arith)

@@ -30,6 +30,21 @@ pub fn put_all(out: &mut [u8], at: usize, s: &[u8]) -> usize
     next
 }
 
+// Stores all of `s` too: a text of one or two bytes by single stores, so that no copy is called.
+pub fn put_text(out: &mut [u8], at: usize, s: &[u8]) -> usize
+    requires { ⌜ at + length (now s) ≤ length (now out) ⌝ }
+    ensures { λ r. ⌜ Writes (now (s .entry)) (now (out .entry)) at (now (out .exit)) r ⌝ }
+{
+    if s.len() == 1 {
+        return put(out, at, s[0]);
+    }
+    if s.len() == 2 {
+        let next = put(out, at, s[0]);
+        return put(out, next, s[1]);
+    }
+    put_all(out, at, s)
+}
+
 // Stores `count` times one byte.
 pub fn put_fill(out: &mut [u8], at: usize, byte: u8, count: usize) -> usize
     requires { ⌜ at + count ≤ length (now out) ⌝ }
