@@ -3,6 +3,7 @@ ghost use mathlib.Core.Path.{_≡_};
 ghost use Prim.Native.Nat.{_+_, _≤_, _<_, max};
 ghost use lib.ListN.{length};
 ghost use Rattle.output.specs.Writes.{Writes};
+ghost use Rattle.numbers.specs.declared.Letters.the-variants.{Lower};
 ghost use Rattle.numbers.specs.Digits.{letterTen, digitChar, byteText, digitCount, numberText, padded};
 use output::free;
 use output::put;
@@ -43,6 +44,31 @@ pub fn put_byte(out: &mut [u8], at: usize, letters: Letters, byte: u8) -> usize
     put(out, next, digit_char(letters, byte % 16))
 }
 
+// How many decimal digits a byte has.
+pub fn decimal_count(byte: u8) -> usize
+    ensures { λ r. ⌜ r ≡ digitCount 10 byte ⌝ }
+{
+    if byte < 10 {
+        return 1;
+    }
+    if byte < 100 { 2 } else { 3 }
+}
+
+// Stores a byte in decimal, with no padding. Each of the three digits is stored, at a place that
+// the next one takes where it is not to be seen, so that no branch goes by the byte.
+pub fn put_decimal(out: &mut [u8], at: usize, byte: u8) -> usize
+    requires { ⌜ at + digitCount 10 byte ≤ length (now out) ⌝ }
+    ensures { λ r. ⌜ Writes (numberText Lower 10 byte) (now (out .entry)) at (now (out .exit)) r ⌝ }
+{
+    let count = decimal_count(byte);
+    let last = at + (count - 1);
+    let middle = at + free(2, count);
+    out[at] = digit_char(Letters::Lower, byte / 100);
+    out[middle] = digit_char(Letters::Lower, byte / 10 % 10);
+    out[last] = digit_char(Letters::Lower, byte % 10);
+    at + count
+}
+
 // How many digits `value` has in a radix.
 pub fn digit_count(value: u64, radix: u64) -> usize
     requires { ⌜ 2 ≤ radix ⌝ }
@@ -57,13 +83,21 @@ pub fn digit_count(value: u64, radix: u64) -> usize
     count
 }
 
-// Stores a number in a radix of 2 to 36, with no padding. The last digit is found first, so the
-// digits are stored from the back.
-pub fn put_number(out: &mut [u8], at: usize, letters: Letters, value: u64, radix: u64) -> usize
-    requires { ⌜ (2 ≤ radix) × (radix ≤ 36) × (at + digitCount radix value ≤ length (now out)) ⌝ }
+// Stores a number that has `count` digits in a radix of 2 to 36. The last digit is found first, so
+// the digits are stored from the back.
+fn put_counted(
+    out: &mut [u8],
+    at: usize,
+    letters: Letters,
+    value: u64,
+    radix: u64,
+    count: usize,
+) -> usize
+    requires range { ⌜ (2 ≤ radix) × (radix ≤ 36) ⌝ }
+    requires counted { ⌜ (count ≡ digitCount radix value) × (at + count ≤ length (now out)) ⌝ }
     ensures { λ r. ⌜ Writes (numberText letters radix value) (now (out .entry)) at (now (out .exit)) r ⌝ }
 {
-    let end = at + digit_count(value, radix);
+    let end = at + count;
     let mut place = end;
     let mut rest = value;
     while radix <= rest {
@@ -75,6 +109,15 @@ pub fn put_number(out: &mut [u8], at: usize, letters: Letters, value: u64, radix
     let first = rest as u8;
     out[at] = digit_char(letters, first);
     end
+}
+
+// Stores a number in a radix of 2 to 36, with no padding.
+pub fn put_number(out: &mut [u8], at: usize, letters: Letters, value: u64, radix: u64) -> usize
+    requires { ⌜ (2 ≤ radix) × (radix ≤ 36) × (at + digitCount radix value ≤ length (now out)) ⌝ }
+    ensures { λ r. ⌜ Writes (numberText letters radix value) (now (out .entry)) at (now (out .exit)) r ⌝ }
+{
+    let count = digit_count(value, radix);
+    put_counted(out, at, letters, value, radix, count)
 }
 
 // Stores a number in a radix of 2 to 36, filled on its left to a width.
@@ -92,7 +135,35 @@ pub fn put_padded(
 {
     let count = digit_count(value, radix);
     let next = put_fill(out, at, fill, free(count, width));
-    put_number(out, next, letters, value, radix)
+    put_counted(out, next, letters, value, radix, count)
+}
+
+// Stores a number whose digits fit in a width, filled on its left to it. The digits are stored from
+// the back, so that they need not be counted.
+pub fn put_column(
+    out: &mut [u8],
+    at: usize,
+    letters: Letters,
+    value: u64,
+    radix: u64,
+    fill: u8,
+    width: usize,
+) -> usize
+    requires range { ⌜ (2 ≤ radix) × (radix ≤ 36) ⌝ }
+    requires fits { ⌜ (digitCount radix value ≤ width) × (at + width ≤ length (now out)) ⌝ }
+    ensures { λ r. ⌜ Writes (padded fill width (numberText letters radix value)) (now (out .entry)) at (now (out .exit)) r ⌝ }
+{
+    let end = at + width;
+    let mut place = end - 1;
+    let mut rest = value;
+    while radix <= rest {
+        out[place] = digit_char(letters, (rest % radix) as u8);
+        place -= 1;
+        rest = rest / radix;
+    }
+    out[place] = digit_char(letters, rest as u8);
+    put_fill(out, at, fill, place - at);
+    end
 }
 
 // Stores a text, filled with spaces on its left to a width.

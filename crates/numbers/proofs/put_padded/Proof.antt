@@ -20,11 +20,13 @@ free-requires c κs = search needs
 put-fill-requires : tie.Need-put-fill-requires
 put-fill-requires c κs = search needs
 
-put-number-requires : tie.Need-put-number-requires
-put-number-requires c κs =
+put-counted-requires : tie.Need-put-counted-requires
+put-counted-requires c κs =
     let filled = c .before .before .before in
     let start = filled .before .before .before .before .before in
-    (start .pre .0, start .pre .1, omega (arith, filled .put-fill .ensures .next, length-replicate (filled .before .free .result) (start .args .fill)))
+    let count = filled .before .before .before .digit-count .ensures in
+    let fill = length-replicate (filled .before .free .result) (start .args .fill) in
+    ((start .pre .0, start .pre .1), (count, omega (arith, filled .put-fill .ensures .next, fill)))
 
 same-length : tie.Need-same-length
 same-length c = search needs
@@ -37,7 +39,7 @@ returns c =
     let a = filled .before .before .before .before .before .args in
     let left : filled .before .free .result ≡ a .width - length (numberText (a .letters) (a .radix) (a .value)) =
     omega (arith, number-length (a .letters) (a .radix) (a .value)) in
-    rw (← left) (writes-then (filled .put-fill .ensures) (called .put-number .ensures))
+    rw (← left) (writes-then (filled .put-fill .ensures) (called .put-counted .ensures))
 
 pub put-padded-spec : {M : Type 1} → statement M
 put-padded-spec =
@@ -46,6 +48,6 @@ put-padded-spec =
     digit-count-requires
     free-requires
     put-fill-requires
-    put-number-requires
+    put-counted-requires
     same-length
     returns)
