@@ -1,0 +1,97 @@
+-- Laws of whole bytes in digits.
+-- Assumes nothing.
+use mathlib.Core.Path.{_≡_, refl, _∙_}
+use mathlib.Core.List.{List, [], _∷_, _++_}
+use Prim.Native.Nat.{ℕ, _+_, _*_, _/_, _%_, _<_, _≤_}
+use native.Mathlib.Omega.{arith}
+use native.Mathlib.Nat.{suc-mul, mul-one, mul-le-mul-right}
+use lib.ListN.{length, length-append}
+use borrow.Author.Tests.{lt-ltb}
+use Rattle.bitvec.specs.Bits.{byteAt}
+use Rattle.output.specs.Pieces.{pieces}
+use Rattle.output.proofs.Pieces.{pieces-none, pieces-next, pieces-length}
+use Rattle.numbers.specs.declared.Letters.the-variants.{Lower}
+use Rattle.numbers.specs.Digits.{digitChar, byteText}
+use Rattle.rows.specs.declared.ByteDigits.{ByteDigits}
+use Rattle.rows.specs.declared.ByteDigits.the-variants.{Binary, Hex}
+use Rattle.rows.specs.Rows.{digitsOf, perByte, byteDigits, bytesText, rowsText}
+
+-- One part more is within a number of parts that is larger.
+pub stride : (k n w : ℕ) → k < n → k * w + w ≤ n * w
+stride k n w h = rw (← suc-mul k w) (mul-le-mul-right w h)
+
+-- A number of m digits has a character for each.
+pub digits-length : (w m v : ℕ) → length (digitsOf w m v) ≡ m
+unfolding digitsOf
+digits-length w m v = pieces-length _ 1 m (λ k h. refl) ∙ mul-one m
+
+-- The eight digits of a byte are four of its quotient by 16 and four of the remainder.
+pub bits-halves : (b : ℕ) → digitsOf 1 8 b ≡ digitsOf 1 4 (b / 16) ++ digitsOf 1 4 (b % 16)
+unfolding digitsOf pieces
+bits-halves b =
+    let a₀ : b / 16 / 8 % 2 ≡ b / 128 % 2 = omega arith in
+    let a₁ : b / 16 / 4 % 2 ≡ b / 64 % 2 = omega arith in
+    let a₂ : b / 16 / 2 % 2 ≡ b / 32 % 2 = omega arith in
+    let a₃ : b / 16 / 1 % 2 ≡ b / 16 % 2 = omega arith in
+    let b₀ : b % 16 / 8 % 2 ≡ b / 8 % 2 = omega arith in
+    let b₁ : b % 16 / 4 % 2 ≡ b / 4 % 2 = omega arith in
+    let b₂ : b % 16 / 2 % 2 ≡ b / 2 % 2 = omega arith in
+    let b₃ : b % 16 / 1 % 2 ≡ b / 1 % 2 = omega arith in
+    rw (a₀, a₁, a₂, a₃, b₀, b₁, b₂, b₃)
+
+-- A binary digit is 0 or 1.
+bit-char : (x : ℕ) → digitChar Lower (x % 2) ≡ 48 + x % 2
+unfolding digitChar
+bit-char x = simp (lt-ltb (x % 2) 10 (omega arith))
+
+-- The four binary digits of a number below 16.
+pub four-digits : (v : ℕ) → v < 16 → digitsOf 1 4 v ≡ (48 + v / 8) ∷ (48 + v / 4 % 2) ∷ (48 + v / 2 % 2) ∷ (48 + v % 2) ∷ []
+unfolding digitsOf pieces
+four-digits v h =
+    let first : v / 8 % 2 ≡ v / 8 = omega arith in
+    let last : v / 1 % 2 ≡ v % 2 = omega arith in
+    rw (bit-char (v / 8), bit-char (v / 4), bit-char (v / 2), bit-char (v / 1), first, last)
+
+pub byte-length : (kind : ByteDigits) (b : ℕ) → length (byteDigits kind b) ≡ perByte kind
+unfolding byteDigits byteText
+byte-length Binary b = digits-length 1 8 b
+byte-length Hex b = refl
+
+pub bytes-none : (kind : ByteDigits) (bytes : List ℕ) (len i : ℕ) → bytesText kind bytes len i 0 ≡ []
+unfolding bytesText
+bytes-none kind bytes len i = pieces-none _
+
+-- One byte more.
+pub bytes-next : (kind : ByteDigits) (bytes : List ℕ) (len i m : ℕ)
+    → bytesText kind bytes len i (m + 1) ≡ bytesText kind bytes len i m ++ byteDigits kind (byteAt bytes len (i + m))
+unfolding bytesText
+bytes-next kind bytes len i m = pieces-next _ m
+
+pub bytes-length : (kind : ByteDigits) (bytes : List ℕ) (len i m : ℕ) → length (bytesText kind bytes len i m) ≡ m * perByte kind
+unfolding bytesText
+bytes-length kind bytes len i m = pieces-length _ (perByte kind) m (λ j h. byte-length kind (byteAt bytes len (i + j)))
+
+pub rows-none : (kind : ByteDigits) (bytes : List ℕ) (len i m : ℕ) (tail : List ℕ) → rowsText kind bytes len i m tail 0 ≡ []
+unfolding rowsText
+rows-none kind bytes len i m tail = pieces-none _
+
+-- One row more.
+pub rows-next : (kind : ByteDigits) (bytes : List ℕ) (len i m : ℕ) (tail : List ℕ) (n : ℕ)
+    → rowsText kind bytes len i m tail (n + 1) ≡ rowsText kind bytes len i m tail n ++ (bytesText kind bytes len (i + n * m) m ++ tail)
+unfolding rowsText
+rows-next kind bytes len i m tail n = pieces-next _ n
+
+pub rows-length : (kind : ByteDigits) (bytes : List ℕ) (len i m : ℕ) (tail : List ℕ) (n : ℕ)
+    → length (rowsText kind bytes len i m tail n) ≡ n * (m * perByte kind + length tail)
+unfolding rowsText
+rows-length kind bytes len i m tail n =
+    pieces-length _ (m * perByte kind + length tail) n
+    (λ k h. length-append (bytesText kind bytes len (i + k * m) m) tail ∙ rw (bytes-length kind bytes len (i + k * m) m))
+
+-- One row of one byte more.
+pub singles-next : (kind : ByteDigits) (bytes : List ℕ) (len i : ℕ) (tail : List ℕ) (n : ℕ)
+    → rowsText kind bytes len i 1 tail (n + 1) ≡ rowsText kind bytes len i 1 tail n ++ (byteDigits kind (byteAt bytes len (i + n)) ++ tail)
+unfolding bytesText pieces
+singles-next kind bytes len i tail n =
+    let place : i + n * 1 + 0 ≡ i + n = omega arith in
+    rw (rows-next kind bytes len i 1 tail n, place)
