@@ -97,8 +97,55 @@ fn words() -> [u32; 4096]
     [0; 4096]
 }
 
-// The listing of spans that have no fault, or refusal 8.
-fn list_spans<'a>(
+// Room for the place of each of a few spans.
+fn few_words() -> [u32; 64]
+    ensures { λ r. ⌜ length r ≡ 64 ⌝ }
+{
+    [0; 64]
+}
+
+// The listing of few spans that have no fault, or refusal 8: less memory is set to zero.
+fn list_few<'a>(
+    image: &[u8],
+    bits: usize,
+    options: FormatAnnotatedOptions,
+    offsets: &[u32],
+    sizes: &[u32],
+    addrs: &[u64],
+    files: &[u8],
+    starts: &[u64],
+    ends: &[u64],
+    firmware: &'a [u8],
+    protocol: &'a [u8],
+    out: &mut [u8],
+) -> Export
+    requires options { ⌜ (badAnnotated options ≡ false) × (length (now offsets) ≤ 64) ⌝ }
+    requires lengths { ⌜ (length (now sizes) ≡ length (now offsets)) × (length (now addrs) ≡ length (now offsets)) × (length (now files) ≡ length (now offsets)) × (length (now starts) ≡ length (now offsets)) × (length (now ends) ≡ length (now offsets)) ⌝ }
+    requires sound { ⌜ (length (now firmware) ≤ 1048576) × (length (now protocol) ≤ 1048576) × (spanFault options (spansOf (now offsets) (now sizes) (now addrs) (now files) (now starts) (now ends)) (now firmware) (now protocol) ≡ length (now offsets)) ⌝ }
+    ensures { λ r. ⌜ Exports (inRoom (length (now (out .entry))) (annotatedText options (now (image .entry)) bits (spansOf (now (offsets .entry)) (now (sizes .entry)) (now (addrs .entry)) (now (files .entry)) (now (starts .entry)) (now (ends .entry))) (now (firmware .entry)) (now (protocol .entry)))) r (now (out .entry)) (now (out .exit)) ⌝ }
+{
+    let count = offsets.len();
+    let mut places = few_words();
+    ordering::order_few(offsets, &mut places);
+    list_in_order(
+        image,
+        bits,
+        options,
+        &places[..count],
+        offsets,
+        sizes,
+        addrs,
+        files,
+        starts,
+        ends,
+        firmware,
+        protocol,
+        out,
+    )
+}
+
+// The listing of spans that have no fault, up to the limit, or refusal 8.
+fn list_many<'a>(
     image: &[u8],
     bits: usize,
     options: FormatAnnotatedOptions,
@@ -125,6 +172,58 @@ fn list_spans<'a>(
         bits,
         options,
         &places[..count],
+        offsets,
+        sizes,
+        addrs,
+        files,
+        starts,
+        ends,
+        firmware,
+        protocol,
+        out,
+    )
+}
+
+// The listing of spans that have no fault, or refusal 8.
+fn list_spans<'a>(
+    image: &[u8],
+    bits: usize,
+    options: FormatAnnotatedOptions,
+    offsets: &[u32],
+    sizes: &[u32],
+    addrs: &[u64],
+    files: &[u8],
+    starts: &[u64],
+    ends: &[u64],
+    firmware: &'a [u8],
+    protocol: &'a [u8],
+    out: &mut [u8],
+) -> Export
+    requires options { ⌜ (badAnnotated options ≡ false) × (length (now offsets) ≤ 4096) ⌝ }
+    requires lengths { ⌜ (length (now sizes) ≡ length (now offsets)) × (length (now addrs) ≡ length (now offsets)) × (length (now files) ≡ length (now offsets)) × (length (now starts) ≡ length (now offsets)) × (length (now ends) ≡ length (now offsets)) ⌝ }
+    requires sound { ⌜ (length (now firmware) ≤ 1048576) × (length (now protocol) ≤ 1048576) × (spanFault options (spansOf (now offsets) (now sizes) (now addrs) (now files) (now starts) (now ends)) (now firmware) (now protocol) ≡ length (now offsets)) ⌝ }
+    ensures { λ r. ⌜ Exports (inRoom (length (now (out .entry))) (annotatedText options (now (image .entry)) bits (spansOf (now (offsets .entry)) (now (sizes .entry)) (now (addrs .entry)) (now (files .entry)) (now (starts .entry)) (now (ends .entry))) (now (firmware .entry)) (now (protocol .entry)))) r (now (out .entry)) (now (out .exit)) ⌝ }
+{
+    if offsets.len() <= 64 {
+        return list_few(
+            image,
+            bits,
+            options,
+            offsets,
+            sizes,
+            addrs,
+            files,
+            starts,
+            ends,
+            firmware,
+            protocol,
+            out,
+        );
+    }
+    list_many(
+        image,
+        bits,
+        options,
         offsets,
         sizes,
         addrs,

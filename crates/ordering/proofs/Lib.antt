@@ -2,4 +2,5 @@ pub mod Lists
 pub mod Flat
 pub mod Ordered
 mod Merged
+mod Inserted
 pub mod Keys

@@ -1,4 +1,4 @@
--- `annotated::list_spans` meets its contract: the places of the spans have room.
+-- `annotated::list_many` meets its contract: the places of the spans have room.
 -- Assumes nothing.
 use mathlib.Core.Path.{sym}
 use native.Mathlib.Omega.{arith}
@@ -7,8 +7,8 @@ use Rattle.ordering.specs.Order.{inOrder}
 use Rattle.ordering.proofs.Lists.{sets-front}
 use Rattle.ordering.proofs.Keys.{inOrder-length}
 use borrow.Author.Needs.{needs}
-use Rattle.annotated.proofs.list_spans.Statement.{statement}
-use Rattle.annotated.proofs.list_spans.Tie as tie
+use Rattle.annotated.proofs.list_many.Statement.{statement}
+use Rattle.annotated.proofs.list_many.Tie as tie
 
 words-requires : tie.Need-words-requires
 words-requires c κs = search needs
@@ -38,8 +38,8 @@ same-length c = search needs
 returns : tie.Need-returns
 returns c = search needs
 
-pub list-spans-spec : {M : Type 1} → statement M
-list-spans-spec =
+pub list-many-spec : {M : Type 1} → statement M
+list-many-spec =
     tie.close
     (tie.spec
     words-requires

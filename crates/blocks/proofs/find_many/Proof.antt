@@ -1,4 +1,4 @@
--- `blocks::find_blocks` meets its contract: the places of the spans have room.
+-- `blocks::find_many` meets its contract: the places of the spans have room.
 -- Assumes nothing.
 use mathlib.Core.Path.{sym}
 use native.Mathlib.Omega.{arith}
@@ -7,8 +7,8 @@ use Rattle.ordering.specs.Order.{inOrder}
 use Rattle.ordering.proofs.Lists.{sets-front}
 use Rattle.ordering.proofs.Keys.{inOrder-length}
 use borrow.Author.Needs.{needs}
-use Rattle.blocks.proofs.find_blocks.Statement.{statement}
-use Rattle.blocks.proofs.find_blocks.Tie as tie
+use Rattle.blocks.proofs.find_many.Statement.{statement}
+use Rattle.blocks.proofs.find_many.Tie as tie
 
 words-requires : tie.Need-words-requires
 words-requires c κs = search needs
@@ -42,8 +42,8 @@ same-length-2 c = search needs
 returns : tie.Need-returns
 returns c = search needs
 
-pub find-blocks-spec : {M : Type 1} → statement M
-find-blocks-spec =
+pub find-many-spec : {M : Type 1} → statement M
+find-many-spec =
     tie.close
     (tie.spec
     words-requires
