@@ -2,11 +2,12 @@
 -- Assumes nothing.
 use mathlib.Core.Path.{_≡_, refl, ap, _∙_}
 use mathlib.Core.List.{List, [], _∷_, _++_, flatMap, append-assoc}
-use Prim.Native.Nat.{ℕ, _+_, _-_, _*_, _/_, _%_, _<_}
+use Prim.Native.Nat.{ℕ, _+_, _-_, _*_, _/_, _%_, _<_, _≤_}
 use native.Mathlib.Omega.{arith}
-use lib.ListN.{length, length-append}
+use lib.ListN.{length, getD, length-append}
 use Rattle.bitvec.specs.Bits.{bitsAt}
 use Rattle.bitvec.proofs.Bits.{bits-small}
+use Rattle.bitvec.proofs.Words.{byte-whole}
 use Rattle.output.specs.Ascii.{ascii}
 use Rattle.numbers.specs.declared.Letters.the-variants.{Upper}
 use Rattle.numbers.specs.Digits.{byteText}
@@ -20,6 +21,13 @@ use Rattle.hex_records.proofs.Sums.{total-append}
 pub bytes-next : (bytes : List ℕ) (len from k : ℕ) → bytesFrom bytes len from (k + 1) ≡ bytesFrom bytes len from k ++ (bitsAt bytes len (from + 8 * k) 8 ∷ [])
 unfolding bytesFrom
 bytes-next bytes len from k = table-next _ k
+
+-- A byte that is a whole one of the image.
+pub whole-byte : (bytes : List ℕ) (len first k : ℕ) → (first + k) * 8 + 8 ≤ len → getD bytes (first + k) 0 < 256
+    → bitsAt bytes len (first * 8 + 8 * k) 8 ≡ getD bytes (first + k) 0
+whole-byte bytes len first k h l =
+    let place : first * 8 + 8 * k ≡ (first + k) * 8 = omega arith in
+    rw place (byte-whole bytes len (first + k) h l)
 
 pub bytes-none : (bytes : List ℕ) (len from : ℕ) → bytesFrom bytes len from 0 ≡ []
 unfolding bytesFrom table

@@ -3,6 +3,7 @@
 use bitvec::BitOffset;
 use bitvec::UnitAddress;
 use bitvec::parts;
+use bitvec::read_across;
 use bitvec::read_byte;
 use digits::least;
 use numbers::Letters;
@@ -12,6 +13,7 @@ use output::put_all;
 use std::num::wrapping_add_u8;
 use std::num::wrapping_sub_u8;
 ghost use mathlib.Core.Path.{_≡_};
+ghost use mathlib.Core.Bool.{true};
 ghost use mathlib.Core.List.{[], _∷_, _++_, flatMap};
 ghost use Prim.Native.Nat.{_+_, _*_, _/_, _%_, _^_, _≤_, _<_};
 ghost use lib.ListN.{length};
@@ -23,7 +25,7 @@ ghost use Rattle.hex_records.specs.Plan.{hexPlan, blockPlan, blocksAt};
 ghost use Rattle.hex_records.specs.Text.{bytesFrom, total, hexBytes, recordText, hexText};
 
 // Writes `count` bytes of the image from `from` on, and adds them to `sum`, modulo 256.
-fn put_data(
+fn put_each(
     bytes: &[u8],
     len: usize,
     from: BitOffset,
@@ -45,6 +47,108 @@ fn put_data(
         added = wrapping_add_u8(added, byte);
     }
     added
+}
+
+// The same from byte `first` on, where all of them are in the image.
+fn put_whole(
+    bytes: &[u8],
+    len: usize,
+    first: usize,
+    count: usize,
+    sum: u8,
+    out: &mut [u8],
+    at: usize,
+) -> u8
+    requires { ⌜ ((first + count) * 8 ≤ len) × (first + count ≤ length (now bytes)) × (at + 2 * count ≤ length (now out)) ⌝ }
+    ensures sum { λ r. ⌜ r ≡ (sum + total (bytesFrom (now (bytes .entry)) len (first * 8) count)) % 256 ⌝ }
+    ensures stored { λ _. ⌜ now (out .exit) ≡ sets (now (out .entry)) at (hexBytes (bytesFrom (now (bytes .entry)) len (first * 8) count)) ⌝ }
+{
+    let mut added = sum;
+    let mut next = at;
+    for k in 0..count {
+        let byte = bytes[first + k];
+        next = put_byte(out, next, Letters::Upper, byte);
+        added = wrapping_add_u8(added, byte);
+    }
+    added
+}
+
+// The same behind the first `shift` bits of byte `first`, where all of them and a byte behind are in
+// the image.
+fn put_shifted(
+    bytes: &[u8],
+    len: usize,
+    first: usize,
+    shift: usize,
+    count: usize,
+    sum: u8,
+    out: &mut [u8],
+    at: usize,
+) -> u8
+    requires inside { ⌜ ((first + count) * 8 + shift ≤ len) × (first + count < length (now bytes)) ⌝ }
+    requires room { ⌜ (shift ≤ 8) × (at + 2 * count ≤ length (now out)) ⌝ }
+    ensures sum { λ r. ⌜ r ≡ (sum + total (bytesFrom (now (bytes .entry)) len (first * 8 + shift) count)) % 256 ⌝ }
+    ensures stored { λ _. ⌜ now (out .exit) ≡ sets (now (out .entry)) at (hexBytes (bytesFrom (now (bytes .entry)) len (first * 8 + shift) count)) ⌝ }
+{
+    let mut added = sum;
+    let mut next = at;
+    for k in 0..count {
+        let byte = read_across(bytes, len, first + k, shift, 8);
+        next = put_byte(out, next, Letters::Upper, byte);
+        added = wrapping_add_u8(added, byte);
+    }
+    added
+}
+
+// Whether `count` bytes from `from` on are whole bytes of the image.
+fn all_whole(bytes: &[u8], len: usize, from: BitOffset, count: usize) -> bool
+    requires { ⌜ from .0 + 8 * count + 8 < 2 ^ 64 ⌝ }
+    ensures { λ r. ⌜ (r ≡ true → (from .0 / 8 * 8 ≡ from .0) × ((from .0 / 8 + count) * 8 ≤ len) × (from .0 / 8 + count ≤ length (now (bytes .entry)))) ⌝ }
+{
+    let start = from.0;
+    if start % 8 != 0 {
+        return false;
+    }
+    if len < start + 8 * count {
+        return false;
+    }
+    start / 8 + count <= bytes.len()
+}
+
+// Whether `count` bytes from `from` on and the byte of the image behind them are in the image.
+fn all_inside(bytes: &[u8], len: usize, from: BitOffset, count: usize) -> bool
+    requires { ⌜ from .0 + 8 * count + 8 < 2 ^ 64 ⌝ }
+    ensures { λ r. ⌜ (r ≡ true → ((from .0 / 8 + count) * 8 + from .0 % 8 ≤ len) × (from .0 / 8 + count < length (now (bytes .entry)))) ⌝ }
+{
+    let start = from.0;
+    if len < start + 8 * count {
+        return false;
+    }
+    start / 8 + count < bytes.len()
+}
+
+// Writes `count` bytes of the image from `from` on, and adds them to `sum`, modulo 256.
+fn put_data(
+    bytes: &[u8],
+    len: usize,
+    from: BitOffset,
+    count: usize,
+    sum: u8,
+    out: &mut [u8],
+    at: usize,
+) -> u8
+    requires { ⌜ (from .0 + 8 * count + 8 < 2 ^ 64) × (at + 2 * count ≤ length (now out)) ⌝ }
+    ensures sum { λ r. ⌜ r ≡ (sum + total (bytesFrom (now (bytes .entry)) len (from .0) count)) % 256 ⌝ }
+    ensures stored { λ _. ⌜ now (out .exit) ≡ sets (now (out .entry)) at (hexBytes (bytesFrom (now (bytes .entry)) len (from .0) count)) ⌝ }
+{
+    let start = from.0;
+    if all_whole(bytes, len, BitOffset(start), count) {
+        return put_whole(bytes, len, start / 8, count, sum, out, at);
+    }
+    if all_inside(bytes, len, BitOffset(start), count) {
+        return put_shifted(bytes, len, start / 8, start % 8, count, sum, out, at);
+    }
+    put_each(bytes, len, BitOffset(start), count, sum, out, at)
 }
 
 // The sum, modulo 256, of the three bytes before a record's data that are not always zero.

@@ -1,103 +1,70 @@
--- `hex_records::put_data` meets its contract: after k turns k bytes are written and added.
+-- `hex_records::put_data` meets its contract: one case for whole bytes, one for bytes across two, and one for any.
 -- Assumes nothing.
-use mathlib.Core.Path.{_≡_, refl}
-use mathlib.Core.List.{[], _∷_}
-use Prim.Native.Nat.{_+_, _-_, _*_, _%_, _≤_}
+use mathlib.Core.Path.{_≡_}
+use Prim.Native.Nat.{_+_, _*_, _/_, _%_}
 use native.Mathlib.Omega.{arith}
-use lib.ListN.{length}
-use Rattle.bitvec.specs.Bits.{bitsAt}
-use Rattle.numbers.specs.Digits.{byteText}
-use Rattle.output.specs.Writes.{Writes}
-use Rattle.output.proofs.Writes.{writes-nothing, writes-then}
-use Rattle.hex_records.specs.Text.{bytesFrom, total, hexBytes}
-use Rattle.hex_records.proofs.Sums.{total-append}
-use Rattle.hex_records.proofs.Text.{bytes-none, bytes-next, hex-none, hex-append, hex-one}
 use borrow.Author.Needs.{needs}
 use Rattle.hex_records.proofs.put_data.Statement.{statement}
 use Rattle.hex_records.proofs.put_data.Tie as tie
 
-abbrev Inv-loop : tie.InvT-loop
-Inv-loop bytes len count sum out₀ at start added₀ next₀ k₀ out added next k =
-    (k ≤ count)
-    × (next ≡ at + 2 * k)
-    × (added ≡ (sum + total (bytesFrom bytes len start k)) % 256)
-    × Writes (hexBytes (bytesFrom bytes len start k)) out₀ at out next
-    × (length out ≡ length out₀)
+all-whole-requires : tie.Need-all-whole-requires
+all-whole-requires c κs = search needs
 
-abbrev μ-loop : tie.MeasureT-loop
-μ-loop bytes len count sum out₀ at start added₀ next₀ k₀ out added next k = count - k
+put-whole-requires : tie.Need-put-whole-requires
+put-whole-requires c κs =
+    let tested = c .before in
+    let whole = tested .before .all-whole .ensures (tested .if1 .taken) in
+    (whole .1, whole .2, tested .before .before .before .before .pre .1)
 
-loop-holds : tie.Need-loop-holds Inv-loop μ-loop
-unfolding total
-loop-holds c =
-    let a = c .before .before .args in (
-      search needs,
-      omega arith,
-      rw (bytes-none (a .bytes .now) (a .len) (a .from .0)) (omega arith),
-      rw (bytes-none (a .bytes .now) (a .len) (a .from .0), hex-none) (writes-nothing (a .out .now) (a .at)),
-      refl,
-    )
-
-mul-t14 : tie.Need-mul-t14 Inv-loop μ-loop
-mul-t14 c = search needs
-
-add-t15 : tie.Need-add-t15 Inv-loop μ-loop
-add-t15 c = search needs
-
-read-byte-requires : tie.Need-read-byte-requires Inv-loop μ-loop
-read-byte-requires c κs = search needs
-
-put-byte-requires : tie.Need-put-byte-requires Inv-loop μ-loop
-put-byte-requires c κs = search needs
-
-wrapping-add-u8-requires : tie.Need-wrapping-add-u8-requires Inv-loop μ-loop
-wrapping-add-u8-requires c κs = search needs
-
-add-k : tie.Need-add-k Inv-loop μ-loop
-add-k c = search needs
-
-loop-less : tie.Need-loop-less Inv-loop μ-loop
-loop-less c = search needs
-
-loop-again : tie.Need-loop-again Inv-loop μ-loop
-unfolding total byteText
-loop-again c =
-    let l = c .before .before .before .before .before .before .before .loop in
-    let a = c .before .before .before .before .before .before .before .before .before .before .args in
-    let byte = c .before .before .before .before .before .read-byte .result in
-    let done = bytesFrom (a .bytes .now) (a .len) (a .from .0) (l .k) in (
-      search needs,
-      omega (arith, c .before .before .before .put-byte .ensures .next),
-      rw (bytes-next (a .bytes .now) (a .len) (a .from .0) (l .k), total-append done (bitsAt (a .bytes .now) (a .len) (a .from .0 + 8 * l .k) 8 ∷ []), ← c .before .before .before .before .before .read-byte .ensures)
-          (omega (arith, c .wrapping-add-u8 .ensures)),
-      rw (bytes-next (a .bytes .now) (a .len) (a .from .0) (l .k), hex-append done (bitsAt (a .bytes .now) (a .len) (a .from .0 + 8 * l .k) 8 ∷ []), hex-one, ← c .before .before .before .before .before .read-byte .ensures)
-          (writes-then (l .inv .3) (c .before .before .before .put-byte .ensures)),
-      search needs,
-    )
-
-same-length : tie.Need-same-length Inv-loop μ-loop
+same-length : tie.Need-same-length
 same-length c = search needs
 
-returns : tie.Need-returns Inv-loop μ-loop
+returns : tie.Need-returns
 returns c =
-    let l = c .before .loop in
-    let done : l .k ≡ c .before .before .before .before .args .count = omega arith in
-    rw (← done) (l .inv .2, l .inv .3 .stored)
+    let put = c .before .before in
+    let tested = put .before .before in
+    rw (← tested .before .all-whole .ensures (tested .if1 .taken) .0) (put .put-whole .ensures)
+
+all-inside-requires : tie.Need-all-inside-requires
+all-inside-requires c κs = search needs
+
+put-shifted-requires : tie.Need-put-shifted-requires
+put-shifted-requires c κs =
+    let tested = c .before in
+    let start = tested .before .before .before .before .before .before in
+    (tested .before .all-inside .ensures (tested .if2 .taken), (omega arith, start .pre .1))
+
+same-length-2 : tie.Need-same-length-2
+same-length-2 c = search needs
+
+returns-2 : tie.Need-returns-2
+returns-2 c =
+    let put = c .before .before in
+    let i = put .before .before .before .before .before .before .before .before .args .from .0 in
+    let place : i / 8 * 8 + i % 8 ≡ i = omega arith in
+    rw place at (put .put-shifted .ensures)
+
+put-each-requires : tie.Need-put-each-requires
+put-each-requires c κs = search needs
+
+same-length-3 : tie.Need-same-length-3
+same-length-3 c = search needs
+
+returns-3 : tie.Need-returns-3
+returns-3 c = search needs
 
 pub put-data-spec : {M : Type 1} → statement M
 put-data-spec =
     tie.close
     (tie.spec
-    Inv-loop
-    μ-loop
-    loop-holds
-    mul-t14
-    add-t15
-    read-byte-requires
-    put-byte-requires
-    wrapping-add-u8-requires
-    add-k
-    loop-less
-    loop-again
+    all-whole-requires
+    put-whole-requires
     same-length
-    returns)
+    returns
+    all-inside-requires
+    put-shifted-requires
+    same-length-2
+    returns-2
+    put-each-requires
+    same-length-3
+    returns-3)
