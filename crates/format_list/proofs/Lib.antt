@@ -1,2 +1,3 @@
 mod Lengths
 mod Ranges
+mod Alike

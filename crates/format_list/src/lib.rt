@@ -1,18 +1,21 @@
 // Digits in groups with strings between them (document 01, module 4; the Rust's `format_list`). It
 // answers a text and its length, or refusal 1, 2 or 8.
 ghost use mathlib.Core.Path.{_≡_};
-ghost use mathlib.Core.Bool.{not, _||_, _&&_};
-ghost use Prim.Native.Nat.{_+_, _*_, _≤_, _<_, _^_};
+ghost use mathlib.Core.Bool.{cond, not, _||_, _&&_};
+ghost use mathlib.Core.List.{_++_};
+ghost use Prim.Native.Nat.{_+_, _-_, _*_, _≤_, _<_, _^_};
 ghost use lib.Dec.{eqb};
 ghost use lib.ListN.{length};
 ghost use Rattle.bitvec.specs.Size.{ceilDiv};
 ghost use Rattle.output.specs.Pieces.{pieces, joined, leading};
 ghost use Rattle.output.specs.Writes.{Writes};
 ghost use Rattle.outcome.specs.Outcome.{tooLong, Exports};
+ghost use Rattle.rows.specs.Rows.{perByte, digitBits};
 ghost use Rattle.digits.specs.Base.{baseBits};
-ghost use Rattle.format_list.specs.List.{groupBits, groupText, betweenGroups, listText, badList, listOutcome};
+ghost use Rattle.format_list.specs.List.{groupBits, groupText, betweenGroups, alike, listText, badList, listOutcome};
 use bitvec::BitOffset;
 use outcome::Export;
+use rows::ByteDigits;
 
 // The options of a list but its strings, which are lent beside it.
 pub struct FormatListOptions {
@@ -145,6 +148,196 @@ fn put_groups(
     next
 }
 
+// How many groups there are from one second string to the next: all, where there is none.
+fn segment(options: FormatListOptions, between2: &[u8], count: usize) -> usize
+    ensures { λ r. ⌜ r ≡ cond (eqb (length (now (between2 .entry))) 0) count (options .«groups_per_group2») ⌝ }
+{
+    if between2.len() == 0 {
+        return count;
+    }
+    options.groups_per_group2
+}
+
+// Stores `count` groups from group `k` on with `between` between them. A group has `wide` bytes, and
+// all but the last are whole bytes of the image.
+fn put_alike(
+    out: &mut [u8],
+    at: usize,
+    image: &[u8],
+    bits: usize,
+    options: FormatListOptions,
+    kind: ByteDigits,
+    wide: usize,
+    between: &[u8],
+    k: usize,
+    count: usize,
+) -> usize
+    requires kind { ⌜ (baseBits (options .base) ≡ digitBits kind) × (options .«digits_per_group» ≡ wide * perByte kind) ⌝ }
+    requires inside { ⌜ (0 < count) × ((k + (count - 1)) * (wide * 8) ≤ bits) × (bits ≤ 8 * length (now image)) × (bits ≤ 16777216) × (0 < wide) × (wide ≤ 64) ⌝ }
+    requires room { ⌜ at + length (alike options (now image) bits (now between) k (count - 1)) ≤ length (now out) ⌝ }
+    ensures { λ r. ⌜ Writes (alike options (now (image .entry)) bits (now (between .entry)) k (count - 1)) (now (out .entry)) at (now (out .exit)) r ⌝ }
+{
+    let more = count - 1;
+    let next = rows::put_rows(out, at, kind, image, bits, k * wide, wide, between, more);
+    let width = digits::base_bits(options.base);
+    let from = (k + more) * (wide * 8);
+    digits::put_run(
+        out,
+        next,
+        image,
+        bits,
+        width,
+        BitOffset(from),
+        options.digits_per_group,
+    )
+}
+
+// Stores `count` groups of whole bytes from group `k` on with `between` between them and `between2`
+// behind them. Where that is not the shorter string, `between` is written behind the last group too,
+// as behind the others, and then written over.
+fn put_closed(
+    out: &mut [u8],
+    at: usize,
+    image: &[u8],
+    bits: usize,
+    options: FormatListOptions,
+    kind: ByteDigits,
+    wide: usize,
+    between: &[u8],
+    between2: &[u8],
+    k: usize,
+    count: usize,
+) -> usize
+    requires kind { ⌜ (baseBits (options .base) ≡ digitBits kind) × (options .«digits_per_group» ≡ wide * perByte kind) ⌝ }
+    requires inside { ⌜ (0 < count) × ((k + count) * (wide * 8) ≤ bits) × (bits ≤ 8 * length (now image)) × (bits ≤ 16777216) × (0 < wide) × (wide ≤ 64) ⌝ }
+    requires room { ⌜ at + length (alike options (now image) bits (now between) k (count - 1) ++ now between2) ≤ length (now out) ⌝ }
+    ensures { λ r. ⌜ Writes (alike options (now (image .entry)) bits (now (between .entry)) k (count - 1) ++ now (between2 .entry)) (now (out .entry)) at (now (out .exit)) r ⌝ }
+{
+    if between2.len() < between.len() {
+        let end = put_alike(out, at, image, bits, options, kind, wide, between, k, count);
+        return output::put_text(out, end, between2);
+    }
+    let next = rows::put_rows(out, at, kind, image, bits, k * wide, wide, between, count);
+    output::put_text(out, next - between.len(), between2)
+}
+
+// Stores `count` groups of `wide` bytes each.
+fn put_byte_groups(
+    out: &mut [u8],
+    at: usize,
+    image: &[u8],
+    bits: usize,
+    options: FormatListOptions,
+    between: &[u8],
+    between2: &[u8],
+    kind: ByteDigits,
+    wide: usize,
+    count: usize,
+) -> usize
+    requires kind { ⌜ (baseBits (options .base) ≡ digitBits kind) × (options .«digits_per_group» ≡ wide * perByte kind) × (0 < length (now between2) → 0 < options .«groups_per_group2») ⌝ }
+    requires inside { ⌜ (0 < count) × ((count - 1) * (wide * 8) ≤ bits) × (bits ≤ 8 * length (now image)) × (bits ≤ 16777216) × (0 < wide) × (wide ≤ 64) ⌝ }
+    requires room { ⌜ at + length (joined (betweenGroups options (now between) (now between2)) (groupText options (now image) bits) count) ≤ length (now out) ⌝ }
+    ensures { λ r. ⌜ Writes (joined (betweenGroups options (now (between .entry)) (now (between2 .entry))) (groupText options (now (image .entry)) bits) count) (now (out .entry)) at (now (out .exit)) r ⌝ }
+{
+    let size = segment(options, between2, count);
+    let mut next = at;
+    let mut k = 0;
+    while size < count - k {
+        next = put_closed(
+            out,
+            next,
+            image,
+            bits,
+            options,
+            kind,
+            wide,
+            between,
+            between2,
+            k,
+            size,
+        );
+        k += size;
+    }
+    put_alike(
+        out,
+        next,
+        image,
+        bits,
+        options,
+        kind,
+        wide,
+        between,
+        k,
+        count - k,
+    )
+}
+
+// Stores `count` groups of digits of `width` bits: by bytes, where a group has whole bytes of
+// hexadecimal or binary digits.
+fn put_all_groups(
+    out: &mut [u8],
+    at: usize,
+    image: &[u8],
+    bits: usize,
+    options: FormatListOptions,
+    between: &[u8],
+    between2: &[u8],
+    width: usize,
+    count: usize,
+) -> usize
+    requires options { ⌜ (0 < length (now between2) → 0 < options .«groups_per_group2») × (width ≡ baseBits (options .base)) × (0 < options .«digits_per_group») × (options .«digits_per_group» ≤ 64) ⌝ }
+    requires size { ⌜ (count * groupBits options < 2 ^ 32) × (count ≡ ceilDiv bits (groupBits options)) × (bits ≤ 8 * length (now image)) × (bits ≤ 16777216) ⌝ }
+    requires room { ⌜ at + length (joined (betweenGroups options (now between) (now between2)) (groupText options (now image) bits) count) ≤ length (now out) ⌝ }
+    ensures { λ r. ⌜ Writes (joined (betweenGroups options (now (between .entry)) (now (between2 .entry))) (groupText options (now (image .entry)) bits) count) (now (out .entry)) at (now (out .exit)) r ⌝ }
+{
+    let digits = options.digits_per_group;
+    if 0 < count {
+        if width == 4 {
+            if digits % 2 == 0 {
+                return put_byte_groups(
+                    out,
+                    at,
+                    image,
+                    bits,
+                    options,
+                    between,
+                    between2,
+                    ByteDigits::Hex,
+                    digits / 2,
+                    count,
+                );
+            }
+        }
+        if width == 1 {
+            if digits % 8 == 0 {
+                return put_byte_groups(
+                    out,
+                    at,
+                    image,
+                    bits,
+                    options,
+                    between,
+                    between2,
+                    ByteDigits::Binary,
+                    digits / 8,
+                    count,
+                );
+            }
+        }
+    }
+    put_groups(
+        out,
+        at,
+        image,
+        bits,
+        options,
+        between,
+        between2,
+        width,
+        count,
+    )
+}
+
 // Stores the list of `count` groups.
 fn write_list(
     image: &[u8],
@@ -158,11 +351,11 @@ fn write_list(
     count: usize,
     out: &mut [u8],
 ) -> usize
-    requires { ⌜ (0 < length (now between2) → 0 < options .«groups_per_group2») × (width ≡ baseBits (options .base)) × (count * groupBits options < 2 ^ 32) × (count ≡ ceilDiv bits (groupBits options)) × (length (listText options (now before) (now after) (now between) (now between2) (now image) bits) ≤ length (now out)) ⌝ }
+    requires { ⌜ (0 < length (now between2) → 0 < options .«groups_per_group2») × (width ≡ baseBits (options .base)) × (0 < options .«digits_per_group») × (options .«digits_per_group» ≤ 64) × (count * groupBits options < 2 ^ 32) × (count ≡ ceilDiv bits (groupBits options)) × (bits ≤ 8 * length (now image)) × (bits ≤ 16777216) × (length (listText options (now before) (now after) (now between) (now between2) (now image) bits) ≤ length (now out)) ⌝ }
     ensures { λ r. ⌜ Writes (listText options (now (before .entry)) (now (after .entry)) (now (between .entry)) (now (between2 .entry)) (now (image .entry)) bits) (now (out .entry)) 0 (now (out .exit)) r ⌝ }
 {
     let mut next = output::put_all(out, 0, before);
-    next = put_groups(
+    next = put_all_groups(
         out,
         next,
         image,

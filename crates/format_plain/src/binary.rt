@@ -1,8 +1,11 @@
 // The binary file of an image (the Rust's `format_binary`).
 ghost use mathlib.Core.Path.{_≡_};
-ghost use Prim.Native.Nat.{_≤_, _<_, _^_};
+ghost use mathlib.Core.List.{[], _∷_};
+ghost use Prim.Native.Nat.{_*_, _≤_, _<_, _^_};
 ghost use lib.ListN.{length};
+ghost use Rattle.bitvec.specs.Bits.{byteAt};
 ghost use Rattle.bitvec.specs.Size.{ceilDiv};
+ghost use Rattle.output.specs.Pieces.{pieces};
 ghost use Rattle.output.specs.Writes.{Writes};
 ghost use Rattle.outcome.specs.Outcome.{Exports};
 ghost use Rattle.format_plain.specs.Binary.{binaryText, binaryOutcome, paddedIn};
@@ -15,18 +18,29 @@ pub struct BinaryExport {
     pub padded: bool,
 }
 
-fn write_binary(image: &[u8], bits: usize, count: usize, out: &mut [u8]) -> usize
-    requires { ⌜ (count ≡ ceilDiv bits 8) × (count ≤ length (now out)) × (bits < 2 ^ 32) ⌝ }
-    ensures { λ r. ⌜ Writes (binaryText (now (image .entry)) bits) (now (out .entry)) 0 (now (out .exit)) r ⌝ }
+// Stores the first `whole` bytes of the image, none of which the image fills in part.
+fn put_whole(image: &[u8], bits: usize, whole: usize, out: &mut [u8]) -> usize
+    requires { ⌜ (whole * 8 ≤ bits) × (whole ≤ length (now image)) × (whole ≤ length (now out)) ⌝ }
+    ensures { λ r. ⌜ Writes (pieces (λ k. byteAt (now (image .entry)) bits k ∷ []) whole) (now (out .entry)) 0 (now (out .exit)) r ⌝ }
 {
-    let mut offset = 0;
     let mut next = 0;
-    while next < count {
-        let byte = bitvec::read_byte(image, bits, BitOffset(offset));
-        next = output::put(out, next, byte);
-        offset += 8;
+    while next < whole {
+        next = output::put(out, next, image[next]);
     }
     next
+}
+
+// Stores the bytes: the whole ones, and then a last one that the image fills in part.
+fn write_binary(image: &[u8], bits: usize, count: usize, out: &mut [u8]) -> usize
+    requires { ⌜ (count ≡ ceilDiv bits 8) × (count ≤ length (now out)) × (bits < 2 ^ 32) × (bits ≤ 8 * length (now image)) ⌝ }
+    ensures { λ r. ⌜ Writes (binaryText (now (image .entry)) bits) (now (out .entry)) 0 (now (out .exit)) r ⌝ }
+{
+    let next = put_whole(image, bits, bits / 8, out);
+    if next == count {
+        return next;
+    }
+    let byte = bitvec::read_byte(image, bits, BitOffset(next * 8));
+    output::put(out, next, byte)
 }
 
 // The image's bytes, the last one filled with zeros.

@@ -14,7 +14,7 @@ use Rattle.digits.proofs.Run.{run-length, line-length}
 use Rattle.digits.proofs.Parts.{parts-length}
 use Rattle.format_readmem.specs.declared.Readmem.{Readmem}
 use Rattle.format_readmem.specs.declared.Readmem.the-variants.{Binary, Hex}
-use Rattle.format_readmem.specs.Readmem.{lineText, readmemText}
+use Rattle.format_readmem.specs.Readmem.{lineText, lineAt, readmemText}
 
 -- How many digits a line of m bits has.
 abbrev pub lineDigits : Readmem → ℕ → ℕ
@@ -36,7 +36,7 @@ digits-most Hex m = omega arith
 -- The whole lines, and the last one where it is shorter, each with its newline.
 pub readmem-length : (kind : Readmem) (bytes : List ℕ) (len width : ℕ) → 0 < width
     → length (readmemText kind bytes len width) ≡ len / width * (lineDigits kind width + 1) + cond (eqb (len % width) 0) 0 (lineDigits kind (len % width) + 1)
-unfolding readmemText
+unfolding readmemText lineAt
 readmem-length kind bytes len width p =
     parts-length _ (λ m. lineDigits kind m + 1) len width p
     (λ i. length-append (lineText kind bytes len (i * width) (partBits len width i)) (ascii "\n") ∙ rw line-digits)

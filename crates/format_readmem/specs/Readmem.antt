@@ -6,6 +6,8 @@ use Rattle.bitvec.specs.Size.{badSize, ceilDiv}
 use Rattle.output.specs.Ascii.{ascii}
 use Rattle.output.specs.Pieces.{pieces}
 use Rattle.outcome.specs.Outcome.{Outcome, refused, outside, inRoom}
+use Rattle.rows.specs.declared.ByteDigits.{ByteDigits}
+use Rattle.rows.specs.declared.ByteDigits.the-variants as Bytes
 use Rattle.digits.specs.Run.{run, hexLine}
 use Rattle.digits.specs.Parts.{partBits}
 use Rattle.format_readmem.specs.declared.Readmem.{Readmem}
@@ -16,9 +18,13 @@ unfoldable pub lineText : Readmem → List ℕ → ℕ → ℕ → ℕ → List 
 lineText Binary bytes len i m = run bytes len 1 i m
 lineText Hex bytes len i m = hexLine bytes len i m
 
--- A line for each width bits, the last one perhaps shorter.
+-- Line i with its newline, the last one perhaps shorter.
+unfoldable pub lineAt : Readmem → List ℕ → ℕ → ℕ → ℕ → List ℕ
+lineAt kind bytes len width i = lineText kind bytes len (i * width) (partBits len width i) ++ ascii "\n"
+
+-- A line for each width bits.
 unfoldable pub readmemText : Readmem → List ℕ → ℕ → ℕ → List ℕ
-readmemText kind bytes len width = pieces (λ i. lineText kind bytes len (i * width) (partBits len width i) ++ ascii "\n") (ceilDiv len width)
+readmemText kind bytes len width = pieces (lineAt kind bytes len width) (ceilDiv len width)
 
 unfoldable pub readmemOutcome : Readmem → List ℕ → ℕ → ℕ → ℕ → Outcome
 readmemOutcome kind bytes len width room =
@@ -31,3 +37,8 @@ readmembOutcome = readmemOutcome Binary
 
 abbrev pub readmemhOutcome : List ℕ → ℕ → ℕ → ℕ → Outcome
 readmemhOutcome = readmemOutcome Hex
+
+-- A line of whole bytes has the digits of bytes.
+abbrev pub byteDigitsOf : Readmem → ByteDigits
+byteDigitsOf Binary = Bytes.Binary
+byteDigitsOf Hex = Bytes.Hex

@@ -2,14 +2,16 @@
 // `format_readmemh`). Each answers a text and its length, or refusal 1, 2 or 8.
 ghost use mathlib.Core.Path.{_≡_};
 ghost use mathlib.Core.List.{List};
-ghost use Prim.Native.Nat.{ℕ, _+_, _≤_, _<_, _^_};
+ghost use Prim.Native.Nat.{ℕ, _+_, _-_, _*_, _%_, _≤_, _<_, _^_};
 ghost use lib.ListN.{length};
 ghost use Rattle.bitvec.specs.Size.{ceilDiv};
+ghost use Rattle.output.specs.Pieces.{pieces};
 ghost use Rattle.output.specs.Writes.{Writes};
 ghost use Rattle.outcome.specs.Outcome.{Exports};
-ghost use Rattle.format_readmem.specs.Readmem.{lineText, readmemText, readmemOutcome, readmembOutcome, readmemhOutcome};
+ghost use Rattle.format_readmem.specs.Readmem.{lineText, lineAt, byteDigitsOf, readmemText, readmemOutcome, readmembOutcome, readmemhOutcome};
 use bitvec::BitOffset;
 use outcome::Export;
+use rows::ByteDigits;
 
 // Which of the two files: a digit for each bit, or hexadecimal digits.
 enum Readmem {
@@ -57,21 +59,24 @@ fn put_line(
     }
 }
 
-// Stores the file, of `lines` lines.
-fn write_readmem(
+// Stores the lines from line `first` on, of `lines` lines.
+fn put_lines(
+    out: &mut [u8],
+    at: usize,
     kind: Readmem,
     image: &[u8],
     bits: usize,
     width: usize,
+    first: usize,
     lines: usize,
-    out: &mut [u8],
 ) -> usize
-    requires { ⌜ (0 < width) × (width ≤ 4096) × (bits ≤ 16777216) × (lines ≡ ceilDiv bits width) × (length (readmemText kind (now image) bits width) ≤ length (now out)) ⌝ }
-    ensures { λ r. ⌜ Writes (readmemText kind (now (image .entry)) bits width) (now (out .entry)) 0 (now (out .exit)) r ⌝ }
+    requires size { ⌜ (0 < width) × (width ≤ 4096) × (bits ≤ 16777216) × (lines ≡ ceilDiv bits width) × (first ≤ lines) ⌝ }
+    requires room { ⌜ at + length (pieces (λ k. lineAt kind (now image) bits width (first + k)) (lines - first)) ≤ length (now out) ⌝ }
+    ensures { λ r. ⌜ Writes (pieces (λ k. lineAt kind (now (image .entry)) bits width (first + k)) (lines - first)) (now (out .entry)) at (now (out .exit)) r ⌝ }
 {
-    let mut offset = 0;
-    let mut next = 0;
-    let mut i = 0;
+    let mut offset = first * width;
+    let mut next = at;
+    let mut i = first;
     while i < lines {
         let count = digits::least(width, bits - offset);
         next = put_line(out, next, kind, image, bits, BitOffset(offset), count);
@@ -80,6 +85,46 @@ fn write_readmem(
         i += 1;
     }
     next
+}
+
+// The digits of a line of whole bytes.
+fn byte_digits(kind: Readmem) -> ByteDigits
+    ensures { λ r. ⌜ r ≡ byteDigitsOf kind ⌝ }
+{
+    match kind {
+        Readmem::Binary => ByteDigits::Binary,
+        Readmem::Hex => ByteDigits::Hex,
+    }
+}
+
+// How many lines are made of whole bytes of the image alone, where lines are.
+fn whole_lines(bits: usize, width: usize) -> usize
+    requires { ⌜ 0 < width ⌝ }
+    ensures { λ r. ⌜ (r * width ≤ bits) × (0 < r → width % 8 ≡ 0) ⌝ }
+{
+    if width % 8 != 0 {
+        return 0;
+    }
+    bits / width
+}
+
+// Stores the file, of `lines` lines: those of whole bytes, and then the others.
+fn write_readmem(
+    kind: Readmem,
+    image: &[u8],
+    bits: usize,
+    width: usize,
+    lines: usize,
+    out: &mut [u8],
+) -> usize
+    requires size { ⌜ (0 < width) × (width ≤ 4096) × (bits ≤ 16777216) × (bits ≤ 8 * length (now image)) × (lines ≡ ceilDiv bits width) ⌝ }
+    requires room { ⌜ length (readmemText kind (now image) bits width) ≤ length (now out) ⌝ }
+    ensures { λ r. ⌜ Writes (readmemText kind (now (image .entry)) bits width) (now (out .entry)) 0 (now (out .exit)) r ⌝ }
+{
+    let whole = whole_lines(bits, width);
+    let digits = byte_digits(kind);
+    let next = rows::put_rows(out, 0, digits, image, bits, 0, width / 8, b"\n", whole);
+    put_lines(out, next, kind, image, bits, width, whole, lines)
 }
 
 fn format_readmem(kind: Readmem, image: &[u8], bits: usize, width: usize, out: &mut [u8]) -> Export

@@ -135,7 +135,11 @@ returns-3 c =
 write-list-requires : tie.Need-write-list-requires
 write-list-requires c κs =
     let cut = c .before .before .before .before in
-    (good (c .before .before .before .before .before .before .before) .place, c .before .before .before .before .before .before .base-bits .ensures, omega (arith, reach cut), groups cut, omega (arith, measured (c .before .before .before)))
+    let tested = c .before .before .before .before .before .before .before in
+    let a = tested .before .before .before .before .before .before .before .before .before .before .args in
+    let ok = good tested in
+    let image = size-good (a .image .now) (a .bits) (sized (tested .before .before)) in
+    (ok .place, c .before .before .before .before .before .before .base-bits .ensures, ok .digits .0, ok .digits .1, omega (arith, reach cut), groups cut, image .1, image .0, omega (arith, measured (c .before .before .before)))
 
 same-length : tie.Need-same-length
 same-length c = search needs

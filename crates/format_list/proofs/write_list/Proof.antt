@@ -19,19 +19,19 @@ room : (c : tie.Start)
     ≤ length (a .out .now))
 room c =
     let a = c .args in
-    rw (c .pre .3)
-    (omega (arith, c .pre .4, list-whole (a .options) (a .before .now) (a .after .now) (a .between .now) (a .between2 .now) (a .image .now) (a .bits)))
+    rw (c .pre .5)
+    (omega (arith, c .pre .8, list-whole (a .options) (a .before .now) (a .after .now) (a .between .now) (a .between2 .now) (a .image .now) (a .bits)))
 
 put-all-requires : tie.Need-put-all-requires
 put-all-requires c κs = omega (arith, room (c .before .before .before .before .before .before .before))
 
-put-groups-requires : tie.Need-put-groups-requires
-put-groups-requires c κs =
+put-all-groups-requires : tie.Need-put-all-groups-requires
+put-all-groups-requires c κs =
     let start = c .before .before .before .before .before .before .before .before .before .before .before in
-    (start .pre .0, start .pre .1, start .pre .2, omega (arith, room start, c .before .before .before .put-all .ensures .next))
+    ((start .pre .0, start .pre .1, start .pre .2, start .pre .3), ((start .pre .4, start .pre .5, start .pre .6, start .pre .7), omega (arith, room start, c .before .before .before .put-all .ensures .next)))
 
 put-all-requires-2 : tie.Need-put-all-requires-2
-put-all-requires-2 c κs = omega (arith, room (c .before .before .before .before .before .before .before .before .before .before .before .before .before .before .before), c .before .before .before .before .before .before .before .put-all .ensures .next, c .before .before .before .put-groups .ensures .next)
+put-all-requires-2 c κs = omega (arith, room (c .before .before .before .before .before .before .before .before .before .before .before .before .before .before .before), c .before .before .before .before .before .before .before .put-all .ensures .next, c .before .before .before .put-all-groups .ensures .next)
 
 same-length : tie.Need-same-length
 same-length c = search needs
@@ -39,9 +39,9 @@ same-length c = search needs
 returns : tie.Need-returns
 unfolding listText
 returns c =
-    rw (← c .before .before .before .before .before .before .before .before .before .before .before .before .before .before .before .before .before .before .pre .3)
-    (writes-then (c .before .before .before .before .before .before .before .before .before .before .put-all .ensures) (writes-then (c .before .before .before .before .before .before .put-groups .ensures) (c .before .before .put-all2 .ensures)))
+    rw (← c .before .before .before .before .before .before .before .before .before .before .before .before .before .before .before .before .before .before .pre .5)
+    (writes-then (c .before .before .before .before .before .before .before .before .before .before .put-all .ensures) (writes-then (c .before .before .before .before .before .before .put-all-groups .ensures) (c .before .before .put-all2 .ensures)))
 
 pub write-list-spec : {M : Type 1} → statement M
 write-list-spec =
-    tie.close (tie.spec put-all-requires put-groups-requires put-all-requires-2 same-length returns)
+    tie.close (tie.spec put-all-requires put-all-groups-requires put-all-requires-2 same-length returns)

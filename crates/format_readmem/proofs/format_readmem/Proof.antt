@@ -63,7 +63,7 @@ write-readmem-requires c κs =
     let a = ranges .before .before .before .before .before .before .args in
     let size = size-good (a .image .now) (a .bits) (sized (ranges .before .before)) in
     let range = inside 1 4096 (a .width) (ranged ranges) in
-    (omega arith, range .1, size .0, c .before .parts .ensures, omega (arith, measured .readmem-length .ensures (a .image .now)))
+    ((omega arith, range .1, size .0, size .1, c .before .parts .ensures), omega (arith, measured .readmem-length .ensures (a .image .now)))
 
 same-length : tie.Need-same-length
 same-length c = search needs

@@ -43,7 +43,8 @@ write-binary-requires : tie.Need-write-binary-requires
 write-binary-requires c κs =
     let checked = c .before .before .before in
     let a = checked .before .before .before .before .args in
-    (c .before .before .parts .ensures, search needs, omega (arith, size-good (a .image .now) (a .bits) (sized checked)))
+    let good = size-good (a .image .now) (a .bits) (sized checked) in
+    (c .before .before .parts .ensures, search needs, omega (arith, good .0), good .1)
 
 same-length : tie.Need-same-length
 same-length c = search needs

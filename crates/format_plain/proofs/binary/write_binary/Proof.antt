@@ -1,78 +1,81 @@
--- `format_plain::binary::write_binary` meets its contract: after each turn the bytes before next are written.
+-- `format_plain::binary::write_binary` meets its contract: the whole bytes, and then a last one where the image fills it in part.
 -- Assumes nothing.
-use mathlib.Core.Path.{_≡_, refl}
+use mathlib.Core.Path.{_≡_, refl, sym, _∙_}
 use mathlib.Core.List.{[], _∷_}
-use Prim.Native.Nat.{_+_, _-_, _*_, _≤_}
+use Prim.Native.Nat.{ℕ, _+_, _/_}
 use native.Mathlib.Omega.{arith}
-use lib.ListN.{length}
 use borrow.Author.Needs.{needs}
 use Rattle.bitvec.specs.Bits.{byteAt}
 use Rattle.bitvec.specs.Size.{ceilDiv}
-use Rattle.output.specs.Pieces.{pieces}
-use Rattle.output.specs.Writes.{Writes}
-use Rattle.output.proofs.Pieces.{pieces-none, pieces-next}
-use Rattle.output.proofs.Writes.{writes-nothing, writes-then}
+use Rattle.output.proofs.Pieces.{pieces-next, pieces-length}
+use Rattle.output.proofs.Writes.{writes-then, writes-length}
 use Rattle.format_plain.specs.Binary.{binaryText}
 use Rattle.format_plain.proofs.binary.write_binary.Statement.{statement}
 use Rattle.format_plain.proofs.binary.write_binary.Tie as tie
 
-abbrev Inv-loop : tie.InvT-loop
-Inv-loop image bits count out₀ offset₀ next₀ out offset next =
-    (next ≤ count) × (offset ≡ next * 8) × Writes (pieces (λ k. byteAt image bits k ∷ []) next) out₀ 0 out next × (length out ≡ length out₀)
+-- behind the whole bytes
+whole-next : (c : tie.After-put-whole) → c .put-whole .result ≡ c .before .before .before .before .args .bits / 8
+whole-next c =
+    let a = c .before .before .before .before .args in
+    omega (arith, c .put-whole .ensures .next, pieces-length (λ k. byteAt (a .image .now) (a .bits) k ∷ []) 1 (a .bits / 8) (λ i h. refl))
 
-abbrev μ-loop : tie.MeasureT-loop
-μ-loop image bits count out₀ offset₀ next₀ out offset next = count - next
-
-loop-holds : tie.Need-loop-holds Inv-loop μ-loop
-loop-holds c = (search needs, search needs, rw pieces-none (writes-nothing _ _), refl)
-
-read-byte-requires : tie.Need-read-byte-requires Inv-loop μ-loop
+-- one byte more, where the whole ones are not all
+one-more : (bits : ℕ) → (ceilDiv bits 8 ≡ bits / 8 → ⊥) → ceilDiv bits 8 ≡ bits / 8 + 1
 unfolding ceilDiv
-read-byte-requires c κs = search needs
+one-more bits n = omega arith
 
-put-requires : tie.Need-put-requires Inv-loop μ-loop
-put-requires c κs = search needs
-
-add-offset : tie.Need-add-offset Inv-loop μ-loop
+put-whole-requires : tie.Need-put-whole-requires
 unfolding ceilDiv
-add-offset c = search needs
+put-whole-requires c κs = search needs
 
-loop-less : tie.Need-loop-less Inv-loop μ-loop
-loop-less c = search needs
-
-loop-again : tie.Need-loop-again Inv-loop μ-loop
-loop-again c =
-    let called = c .before .before in
-    let read = called .before .before in
-    let l = read .before .before in
-    let a = l .before .before .before .args in
-    let stored : Writes (byteAt (a .image .now) (a .bits) (l .loop .next) ∷ []) (l .loop .out) (l .loop .next) (called .put .last .0) (called .put .result) =
-    rw (← l .loop .inv .1, ← read .read-byte .ensures) (called .put .ensures) in
-    let one-more : called .put .result ≡ l .loop .next + 1 = stored .next in
-    (search needs, omega arith, rw (one-more, pieces-next) (rw one-more at (writes-then (l .loop .inv .2) stored)), search needs)
-
-same-length : tie.Need-same-length Inv-loop μ-loop
+same-length : tie.Need-same-length
 same-length c = search needs
 
-returns : tie.Need-returns Inv-loop μ-loop
+returns : tie.Need-returns
 unfolding binaryText
 returns c =
-    let l = c .before in
-    let start = l .before .before .before in
-    let done : l .loop .next ≡ ceilDiv (start .args .bits) 8 = omega arith in
-    rw (← done) (l .loop .inv .2)
+    let put = c .before .before .before in
+    let start = put .before .before .before .before in
+    let all : start .args .bits / 8 ≡ ceilDiv (start .args .bits) 8 = sym (whole-next put) ∙ c .if1 .taken ∙ start .pre .0 in
+    rw (← all) (put .put-whole .ensures)
+
+mul-t7 : tie.Need-mul-t7
+mul-t7 c = record { fits = omega (arith, whole-next (c .before .before .before), c .before .before .before .before .before .before .before .pre .2) }
+
+read-byte-requires : tie.Need-read-byte-requires
+read-byte-requires c κs = omega (arith, whole-next (c .before .before .before), c .before .before .before .before .before .before .before .pre .2)
+
+put-requires : tie.Need-put-requires
+unfolding ceilDiv
+put-requires c κs =
+    let put = c .before .before .before .before .before in
+    let start = put .before .before .before .before in
+    omega (arith, whole-next put, writes-length (put .put-whole .ensures), start .pre .0, start .pre .1, c .before .before .if1 .left)
+
+same-length-2 : tie.Need-same-length-2
+same-length-2 c = search needs
+
+returns-2 : tie.Need-returns-2
+unfolding binaryText
+returns-2 c =
+    let last = c .before .before in
+    let read = last .before .before in
+    let put = read .before .before .before .before in
+    let start = put .before .before .before .before in
+    let a = start .args in
+    let more = one-more (a .bits) (λ e. read .before .if1 .left (whole-next put ∙ sym e ∙ sym (start .pre .0))) in
+    let byte = rw (whole-next put) at (read .read-byte .ensures) in
+    rw (more, pieces-next, ← byte) (writes-then (put .put-whole .ensures) (last .put .ensures))
 
 pub write-binary-spec : {M : Type 1} → statement M
 write-binary-spec =
     tie.close
     (tie.spec
-    Inv-loop
-    μ-loop
-    loop-holds
+    put-whole-requires
+    same-length
+    returns
+    mul-t7
     read-byte-requires
     put-requires
-    add-offset
-    loop-less
-    loop-again
-    same-length
-    returns)
+    same-length-2
+    returns-2)
