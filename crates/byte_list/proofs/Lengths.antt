@@ -3,7 +3,7 @@
 use mathlib.Core.Path.{_≡_, refl, _∙_}
 use mathlib.Core.Bool.{Bool, true, false, cond}
 use mathlib.Core.List.{List, _++_}
-use Prim.Native.Nat.{ℕ, _+_, _-_, _*_, _/_, _%_, _<_, max}
+use Prim.Native.Nat.{ℕ, _+_, _-_, _*_, _/_, _%_, _≤_, _<_, max}
 use native.Mathlib.Omega.{arith}
 use lib.Dec.{eqb}
 use lib.ListN.{length, length-append}
@@ -12,10 +12,12 @@ use Rattle.bitvec.specs.Bits.{byteAt}
 use Rattle.bitvec.specs.Size.{ceilDiv}
 use Rattle.output.specs.Ascii.{ascii}
 use Rattle.output.specs.Pieces.{pieces, every}
+use Rattle.output.proofs.Order.{by-order}
 use Rattle.output.proofs.Joined.{joined-length, between-length, every-length}
 use Rattle.numbers.specs.declared.Letters.the-variants.{Lower}
 use Rattle.numbers.specs.Digits.{byteText, digitCount}
-use Rattle.numbers.proofs.Digits.{number-length, padded-length}
+use Rattle.numbers.proofs.Digits.{count-last, number-length, padded-length}
+use Rattle.numbers.proofs.Decimal.{count-two, count-three}
 use Rattle.byte_list.specs.declared.LineStart.the-variants.{Newline, Comment}
 use Rattle.byte_list.specs.Bytes.{byteIn, byteList}
 use Rattle.byte_list.specs.Start.{addressComment, lineStart}
@@ -24,6 +26,13 @@ use Rattle.byte_list.specs.Start.{addressComment, lineStart}
 pub decimal-length : (b : ℕ) → length (byteIn 10 b) ≡ digitCount 10 b
 unfolding byteIn
 decimal-length b = number-length Lower 10 b
+
+-- These are at most three.
+pub decimal-small : (b : ℕ) → b < 256 → digitCount 10 b ≤ 3
+decimal-small b h =
+    by-order b 10
+    (λ p. omega (arith, count-last 10 b p))
+    (λ p. by-order b 100 (λ q. omega (arith, count-two b p q)) (λ q. omega (arith, count-three b q (omega arith))))
 
 -- In any other it has four characters.
 pub hex-length : (radix b : ℕ) → (radix ≡ 10 → ⊥) → length (byteIn radix b) ≡ 4

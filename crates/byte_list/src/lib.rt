@@ -1,5 +1,5 @@
 // A list of an image's bytes (document 01, module 4): what the separator list and the array of C
-// share.
+// share. The memory initialization file reads its bytes here too.
 ghost use mathlib.Core.Path.{_≡_};
 ghost use mathlib.Core.List.{List, _++_};
 ghost use Prim.Native.Nat.{ℕ, _+_, _*_, _≤_, _<_, _^_};
@@ -30,16 +30,79 @@ pub fn bad_radix(radix: usize) -> bool
     radix != 16
 }
 
+// How many of the first `count` bytes are whole: within the bit length, and lent.
+pub fn whole_bytes(image: &[u8], bits: usize, count: usize) -> usize
+    ensures { λ r. ⌜ (r ≤ count) × (r * 8 ≤ bits) × (r ≤ length (now (image .entry))) ⌝ }
+{
+    output::smaller(output::smaller(bits / 8, image.len()), count)
+}
+
+// Byte `k`, where the first `whole` bytes are whole: such a byte is read as it stands.
+pub fn byte_of(image: &[u8], bits: usize, whole: usize, k: usize) -> u8
+    requires { ⌜ (k < 2 ^ 32) × (whole * 8 ≤ bits) × (whole ≤ length (now image)) ⌝ }
+    ensures { λ r. ⌜ r ≡ byteAt (now (image .entry)) bits k ⌝ }
+{
+    if k < whole {
+        return image[k];
+    }
+    bitvec::read_byte(image, bits, BitOffset(k * 8))
+}
+
+// The length of 64 bytes from `first` on in radix 10, which are whole. A sum of one byte lets the
+// compiler add many at once.
+fn block_length(image: &[u8], bits: usize, first: usize) -> u8
+    requires { ⌜ ((first + 64) * 8 ≤ bits) × (first + 64 ≤ length (now image)) ⌝ }
+    ensures { λ r. ⌜ (r ≡ length (pieces (λ k. byteIn 10 (byteAt (now (image .entry)) bits (first + k))) 64)) × (r ≤ 192) ⌝ }
+{
+    let mut total: u8 = 0;
+    let mut k = 0;
+    while k < 64 {
+        total += numbers::decimal_count(image[first + k]) as u8;
+        k += 1;
+    }
+    total
+}
+
+// The length of the first `count` blocks of 64 bytes in radix 10, which are whole.
+fn blocks_length(image: &[u8], bits: usize, count: usize) -> usize
+    requires { ⌜ (count < 2 ^ 32) × (count * 64 * 8 ≤ bits) × (count * 64 ≤ length (now image)) ⌝ }
+    ensures { λ r. ⌜ (r ≡ length (pieces (λ k. byteIn 10 (byteAt (now (image .entry)) bits k)) (count * 64))) × (r ≤ count * 192) ⌝ }
+{
+    let mut total: usize = 0;
+    let mut i = 0;
+    while i < count {
+        total += block_length(image, bits, i * 64) as usize;
+        i += 1;
+    }
+    total
+}
+
+// The length of the first `count` bytes in radix 10, which are whole.
+fn whole_length(image: &[u8], bits: usize, count: usize) -> usize
+    requires { ⌜ (count < 2 ^ 32) × (count * 8 ≤ bits) × (count ≤ length (now image)) ⌝ }
+    ensures { λ r. ⌜ (r ≡ length (pieces (λ k. byteIn 10 (byteAt (now (image .entry)) bits k)) count)) × (r ≤ count * 8) ⌝ }
+{
+    let blocks = count / 64;
+    let mut total = blocks_length(image, bits, blocks);
+    let mut k = blocks * 64;
+    while k < count {
+        total += numbers::decimal_count(image[k]);
+        k += 1;
+    }
+    total
+}
+
 // The length of the first `count` bytes in radix 10, which differ in length: each is measured.
 fn decimal_length(image: &[u8], bits: usize, count: usize) -> usize
     requires { ⌜ count < 2 ^ 32 ⌝ }
     ensures { λ r. ⌜ (r ≡ length (pieces (λ k. byteIn 10 (byteAt (now (image .entry)) bits k)) count)) × (r ≤ count * 8) ⌝ }
 {
-    let mut total: usize = 0;
-    let mut k = 0;
+    let whole = whole_bytes(image, bits, count);
+    let mut total = whole_length(image, bits, whole);
+    let mut k = whole;
     while k < count {
         let byte = bitvec::read_byte(image, bits, BitOffset(k * 8));
-        total += numbers::digit_count(byte as u64, 10);
+        total += numbers::decimal_count(byte);
         k += 1;
     }
     total
@@ -79,7 +142,7 @@ fn put_byte_in(out: &mut [u8], at: usize, radix: usize, byte: u8) -> usize
     ensures { λ r. ⌜ Writes (byteIn radix byte) (now (out .entry)) at (now (out .exit)) r ⌝ }
 {
     if radix == 10 {
-        return numbers::put_number(out, at, Letters::Lower, byte as u64, 10);
+        return numbers::put_decimal(out, at, byte);
     }
     let next = output::put_all(out, at, b"0x");
     numbers::put_byte(out, next, Letters::Lower, byte)
@@ -128,7 +191,7 @@ fn put_between(out: &mut [u8], at: usize, separator: &[u8], start: LineStart, k:
     if k == 0 {
         return at;
     }
-    let next = output::put_all(out, at, separator);
+    let next = output::put_text(out, at, separator);
     put_line_start(out, next, start, k)
 }
 
@@ -146,10 +209,11 @@ pub fn put_list(
     requires { ⌜ (count < 2 ^ 32) × (count ≡ ceilDiv bits 8) × (at + length (byteList radix (now separator) (lineStart start) (now image) bits) ≤ length (now out)) ⌝ }
     ensures { λ r. ⌜ Writes (byteList radix (now (separator .entry)) (lineStart start) (now (image .entry)) bits) (now (out .entry)) at (now (out .exit)) r ⌝ }
 {
+    let whole = whole_bytes(image, bits, count);
     let mut next = at;
     let mut k = 0;
     while k < count {
-        let byte = bitvec::read_byte(image, bits, BitOffset(k * 8));
+        let byte = byte_of(image, bits, whole, k);
         next = put_between(out, next, separator, start, k);
         next = put_byte_in(out, next, radix, byte);
         k += 1;

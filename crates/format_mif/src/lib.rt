@@ -2,7 +2,7 @@
 // and its length, or refusal 1, 4 or 8.
 ghost use mathlib.Core.Path.{_≡_};
 ghost use mathlib.Core.List.{List};
-ghost use Prim.Native.Nat.{ℕ, _+_, _-_, _≤_, _<_, _^_};
+ghost use Prim.Native.Nat.{ℕ, _+_, _-_, _*_, _≤_, _<_, _^_};
 ghost use lib.ListN.{length};
 ghost use Rattle.bitvec.specs.Size.{ceilDiv};
 ghost use Rattle.output.specs.Pieces.{pieces};
@@ -10,7 +10,6 @@ ghost use Rattle.output.specs.Writes.{Writes};
 ghost use Rattle.outcome.specs.Outcome.{Exports};
 ghost use Rattle.numbers.specs.Digits.{digitCount};
 ghost use Rattle.format_mif.specs.Mif.{mifLine, mifText, mifOutcome};
-use bitvec::BitOffset;
 use numbers::Letters;
 use outcome::Export;
 
@@ -23,21 +22,23 @@ fn mif_length(count: usize, width: usize) -> usize
     depth + count * (width + 7) + 79
 }
 
-// Stores the line of byte `k`.
+// Stores the line of byte `k`, where the first `whole` bytes are whole.
 fn put_mif_line(
     out: &mut [u8],
     at: usize,
     image: &[u8],
     bits: usize,
+    whole: usize,
     width: usize,
     k: usize,
 ) -> usize
-    requires { ⌜ (k < 2 ^ 32) × (at + length (mifLine (now image) bits width k) ≤ length (now out)) ⌝ }
+    requires bytes { ⌜ (k < 2 ^ 32) × (whole * 8 ≤ bits) × (whole ≤ length (now image)) ⌝ }
+    requires room { ⌜ (digitCount 16 k ≤ width) × (at + length (mifLine (now image) bits width k) ≤ length (now out)) ⌝ }
     ensures { λ r. ⌜ Writes (mifLine (now (image .entry)) bits width k) (now (out .entry)) at (now (out .exit)) r ⌝ }
 {
-    let byte = bitvec::read_byte(image, bits, BitOffset(k * 8));
+    let byte = byte_list::byte_of(image, bits, whole, k);
     let mut next = output::put(out, at, b' ');
-    next = numbers::put_padded(out, next, Letters::Upper, k as u64, 16, b' ', width);
+    next = numbers::put_column(out, next, Letters::Upper, k as u64, 16, b' ', width);
     next = output::put_all(out, next, b": ");
     next = numbers::put_byte(out, next, Letters::Upper, byte);
     output::put_all(out, next, b";\n")
@@ -52,13 +53,14 @@ fn put_mif_lines(
     width: usize,
     count: usize,
 ) -> usize
-    requires { ⌜ (count < 2 ^ 32) × (at + length (pieces (mifLine (now image) bits width) count) ≤ length (now out)) ⌝ }
+    requires { ⌜ (count < 2 ^ 32) × (width ≡ digitCount 16 (count - 1)) × (at + length (pieces (mifLine (now image) bits width) count) ≤ length (now out)) ⌝ }
     ensures { λ r. ⌜ Writes (pieces (mifLine (now (image .entry)) bits width) count) (now (out .entry)) at (now (out .exit)) r ⌝ }
 {
+    let whole = byte_list::whole_bytes(image, bits, count);
     let mut next = at;
     let mut k = 0;
     while k < count {
-        next = put_mif_line(out, next, image, bits, width, k);
+        next = put_mif_line(out, next, image, bits, whole, width, k);
         k += 1;
     }
     next

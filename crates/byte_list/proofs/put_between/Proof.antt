@@ -26,11 +26,11 @@ room c =
     let both = simp (ne-eqb _ _ (c .if1 .left)) at (start .pre) in
     omega (arith, length-append (a .separator .now) (every 16 (a .k) (lineStart (a .start) (a .k))))
 
-put-all-requires : tie.Need-put-all-requires
-put-all-requires c κs = omega (arith, room (c .before))
+put-text-requires : tie.Need-put-text-requires
+put-text-requires c κs = omega (arith, room (c .before))
 
 put-line-start-requires : tie.Need-put-line-start-requires
-put-line-start-requires c κs = omega (arith, room (c .before .before .before .before .before), c .before .before .before .put-all .ensures .next)
+put-line-start-requires c κs = omega (arith, room (c .before .before .before .before .before), c .before .before .before .put-text .ensures .next)
 
 same-length : tie.Need-same-length
 same-length c = search needs
@@ -38,8 +38,8 @@ same-length c = search needs
 returns-2 : tie.Need-returns-2
 unfolding leading
 returns-2 c =
-    simp (ne-eqb _ _ (c .before .before .before .before .before .before .before .before .if1 .left)) (writes-then (c .before .before .before .before .before .before .put-all .ensures) (c .before .before .put-line-start .ensures))
+    simp (ne-eqb _ _ (c .before .before .before .before .before .before .before .before .if1 .left)) (writes-then (c .before .before .before .before .before .before .put-text .ensures) (c .before .before .put-line-start .ensures))
 
 pub put-between-spec : {M : Type 1} → statement M
 put-between-spec =
-    tie.close (tie.spec returns put-all-requires put-line-start-requires same-length returns-2)
+    tie.close (tie.spec returns put-text-requires put-line-start-requires same-length returns-2)

@@ -12,8 +12,8 @@ use Rattle.byte_list.proofs.Lengths.{decimal-length, hex-length}
 use Rattle.byte_list.proofs.put_byte_in.Statement.{statement}
 use Rattle.byte_list.proofs.put_byte_in.Tie as tie
 
-put-number-requires : tie.Need-put-number-requires
-put-number-requires c κs =
+put-decimal-requires : tie.Need-put-decimal-requires
+put-decimal-requires c κs =
     let a = c .before .before .before .args in
     let decimal = ap (λ (radix : ℕ). length (byteIn radix (a .byte))) (c .before .if1 .taken) in
     omega (arith, decimal-length (a .byte))
@@ -23,7 +23,7 @@ same-length c = search needs
 
 returns : tie.Need-returns
 unfolding byteIn
-returns c = simp (eq-eqb _ _ (c .before .before .before .before .if1 .taken)) (c .before .before .put-number .ensures)
+returns c = simp (eq-eqb _ _ (c .before .before .before .before .if1 .taken)) (c .before .before .put-decimal .ensures)
 
 slice-aggregate-put-all : tie.Need-slice-aggregate-put-all
 slice-aggregate-put-all c = search needs
@@ -50,7 +50,7 @@ pub put-byte-in-spec : {M : Type 1} → statement M
 put-byte-in-spec =
     tie.close
     (tie.spec
-    put-number-requires
+    put-decimal-requires
     same-length
     returns
     slice-aggregate-put-all

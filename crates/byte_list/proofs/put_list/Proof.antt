@@ -26,40 +26,42 @@ abbrev item : List ℕ → ℕ → ℕ → ℕ → List ℕ
 item bytes len radix k = byteIn radix (byteAt bytes len k)
 
 abbrev Inv-loop : tie.InvT-loop
-Inv-loop out₀ at image bits radix separator start count next₀ k₀ out next k =
+Inv-loop out₀ at image bits radix separator start count whole next₀ k₀ out next k =
     (k ≤ count) × Writes (joined (gap separator start) (item image bits radix) k) out₀ at out next × (length out ≡ length out₀)
 
 abbrev μ-loop : tie.MeasureT-loop
-μ-loop out₀ at image bits radix separator start count next₀ k₀ out next k = count - k
+μ-loop out₀ at image bits radix separator start count whole next₀ k₀ out next k = count - k
 
 -- in a turn there is room for the byte and what stands before it
 room : (c : tie.In-loop Inv-loop μ-loop)
-    → (let a = c .before .before .before .before .before .args in
+    → (let a = c .before .before .before .before .before .before .args in
     c .before .loop .next + (length (leading (gap (a .separator .now) (a .start)) (c .before .loop .k)) + length (item (a .image .now) (a .bits) (a .radix) (c .before .loop .k)))
     ≤ length (c .before .loop .out))
 unfolding byteList
 room c =
     let l = c .before in
-    let start = c .before .before .before .before .before in
+    let start = c .before .before .before .before .before .before in
     let a = start .args in
     let one = joined-room (gap (a .separator .now) (a .start)) (item (a .image .now) (a .bits) (a .radix)) (l .loop .k) (ceilDiv (a .bits) 8) (omega arith) in
     omega (arith, start .pre .2, l .loop .inv .1 .next)
 
+whole-bytes-requires : tie.Need-whole-bytes-requires Inv-loop μ-loop
+whole-bytes-requires c κs = search needs
+
 loop-holds : tie.Need-loop-holds Inv-loop μ-loop
 loop-holds c = (search needs, rw joined-none (writes-nothing _ _), refl)
 
-mul-t13 : tie.Need-mul-t13 Inv-loop μ-loop
-mul-t13 c = search needs
-
-read-byte-requires : tie.Need-read-byte-requires Inv-loop μ-loop
-read-byte-requires c κs = search needs
+byte-of-requires : tie.Need-byte-of-requires Inv-loop μ-loop
+byte-of-requires c κs =
+    let whole = c .before .before .whole-bytes .ensures in
+    (omega arith, whole .1, whole .2)
 
 put-between-requires : tie.Need-put-between-requires Inv-loop μ-loop
 put-between-requires c κs = omega (arith, room (c .before .before))
 
 put-byte-in-requires : tie.Need-put-byte-in-requires Inv-loop μ-loop
 put-byte-in-requires c κs =
-    rw (c .before .before .before .before .before .read-byte .ensures) (omega (arith, room (c .before .before .before .before .before .before), c .before .before .before .put-between .ensures .next))
+    rw (c .before .before .before .before .before .byte-of .ensures) (omega (arith, room (c .before .before .before .before .before .before), c .before .before .before .put-between .ensures .next))
 
 add-k : tie.Need-add-k Inv-loop μ-loop
 add-k c = search needs
@@ -72,7 +74,7 @@ loop-again c =
     let byte = c .before .before in
     let between = byte .before .before .before .before in
     let read = between .before .before in
-    let put-byte-in = rw (read .read-byte .ensures) at (byte .put-byte-in .ensures) in
+    let put-byte-in = rw (read .byte-of .ensures) at (byte .put-byte-in .ensures) in
     (search needs, rw joined-next (writes-then (read .before .before .loop .inv .1) (writes-then (between .put-between .ensures) put-byte-in)), search needs)
 
 same-length : tie.Need-same-length Inv-loop μ-loop
@@ -82,7 +84,7 @@ returns : tie.Need-returns Inv-loop μ-loop
 unfolding byteList
 returns c =
     let l = c .before in
-    let done : l .loop .k ≡ ceilDiv (l .before .before .before .before .args .bits) 8 = omega arith in
+    let done : l .loop .k ≡ ceilDiv (l .before .before .before .before .before .args .bits) 8 = omega arith in
     rw (← done) (l .loop .inv .1)
 
 pub put-list-spec : {M : Type 1} → statement M
@@ -91,9 +93,9 @@ put-list-spec =
     (tie.spec
     Inv-loop
     μ-loop
+    whole-bytes-requires
     loop-holds
-    mul-t13
-    read-byte-requires
+    byte-of-requires
     put-between-requires
     put-byte-in-requires
     add-k

@@ -13,19 +13,16 @@ use Rattle.format_mif.proofs.Lengths.{mif-line-length}
 use Rattle.format_mif.proofs.put_mif_line.Statement.{statement}
 use Rattle.format_mif.proofs.put_mif_line.Tie as tie
 
-mul-t11 : tie.Need-mul-t11
-mul-t11 c = search needs
-
-read-byte-requires : tie.Need-read-byte-requires
-read-byte-requires c κs = search needs
+byte-of-requires : tie.Need-byte-of-requires
+byte-of-requires c κs = search needs
 
 put-requires : tie.Need-put-requires
 put-requires c κs =
     let a = c .before .before .before .before .args in
     omega (arith, mif-line-length (a .image .now) (a .bits) (a .width) (a .k))
 
-put-padded-requires : tie.Need-put-padded-requires
-put-padded-requires c κs =
+put-column-requires : tie.Need-put-column-requires
+put-column-requires c κs =
     let a = c .before .before .before .before .before .before .before .before .args in
     omega (arith, mif-line-length (a .image .now) (a .bits) (a .width) (a .k), c .before .before .before .put .ensures .next)
 
@@ -33,14 +30,14 @@ slice-aggregate-put-all : tie.Need-slice-aggregate-put-all
 slice-aggregate-put-all c = search needs
 
 -- there is room for what comes behind the address
-room : (c : tie.After-put-padded) → c .put-padded .result + 6 ≤ length (c .before .before .before .before .before .before .before .before .before .args .out .now)
+room : (c : tie.After-put-column) → c .put-column .result + 6 ≤ length (c .before .before .before .before .before .before .before .before .before .args .out .now)
 room c =
     let start = c .before .before .before .before .before .before .before .before .before in
     let a = start .args in
     let number = numberText Upper 16 (a .k) in
     let line = mif-line-length (a .image .now) (a .bits) (a .width) (a .k) in
     let address = padded-length 32 (a .width) number in
-    omega (arith, start .pre .1, c .before .before .before .before .put .ensures .next, c .put-padded .ensures .next, number-length Upper 16 (a .k))
+    omega (arith, start .pre .1 .1, c .before .before .before .before .put .ensures .next, c .put-column .ensures .next, number-length Upper 16 (a .k))
 
 put-all-requires : tie.Need-put-all-requires
 put-all-requires c κs = omega (arith, room (c .before .before .before .before))
@@ -67,19 +64,18 @@ returns c =
     let address = colon .before .before .before .before .before in
     let space = address .before .before .before .before in
     writes-then (space .put .ensures)
-    (writes-then (address .put-padded .ensures)
+    (writes-then (address .put-column .ensures)
     (writes-then (colon .put-all .ensures)
-    (writes-then (rw (space .before .before .read-byte .ensures) at (byte .put-byte .ensures))
+    (writes-then (rw (space .before .before .byte-of .ensures) at (byte .put-byte .ensures))
     (ended .put-all2 .ensures))))
 
 pub put-mif-line-spec : {M : Type 1} → statement M
 put-mif-line-spec =
     tie.close
     (tie.spec
-    mul-t11
-    read-byte-requires
+    byte-of-requires
     put-requires
-    put-padded-requires
+    put-column-requires
     slice-aggregate-put-all
     put-all-requires
     put-byte-requires

@@ -42,7 +42,8 @@ put-all-requires-2 : tie.Need-put-all-requires-2
 put-all-requires-2 c κs = omega (arith, room (c .before .before .before .before .before .before .before .before .before .before .before .before .before), numbered (c .before .before .before .before))
 
 put-mif-lines-requires : tie.Need-put-mif-lines-requires
-put-mif-lines-requires c κs = (search needs, omega (arith, room (c .before .before .before .before .before .before .before .before .before .before .before .before .before .before .before .before .before), numbered (c .before .before .before .before .before .before .before .before), c .before .before .before .put-all2 .ensures .next))
+put-mif-lines-requires c κs =
+    (search needs, c .before .before .before .before .before .before .before .before .before .before .before .before .before .before .before .before .before .pre .2, omega (arith, room (c .before .before .before .before .before .before .before .before .before .before .before .before .before .before .before .before .before), numbered (c .before .before .before .before .before .before .before .before), c .before .before .before .put-all2 .ensures .next))
 
 slice-aggregate-put-all-3 : tie.Need-slice-aggregate-put-all-3
 slice-aggregate-put-all-3 c = search needs
