@@ -31,11 +31,18 @@ dumpChar bytes len i = cond (ltb i len) (printed (bitsAt bytes len i 8)) (code "
 unfoldable pub dumpByte : List ℕ → ℕ → ℕ → ℕ → List ℕ
 dumpByte bytes len w i = pieces (λ j. dumpDigit bytes len w (i + j * w) ∷ []) (8 / w) ++ ascii " "
 
--- A line of n bytes: the address of its first byte, filled with zeros to a width, its bytes in digits, with one more space after each
--- fourth byte but the line's last, and its bytes as characters.
+-- The n bytes from byte first on in digits, with one more space after each fourth byte but the last.
+abbrev pub digitColumn : List ℕ → ℕ → ℕ → ℕ → ℕ → List ℕ
+digitColumn bytes len w first n = joined (λ j. every 4 j (ascii " ")) (λ j. dumpByte bytes len w ((first + j) * 8)) n
+
+-- The n bytes from byte first on as characters.
+abbrev pub charColumn : List ℕ → ℕ → ℕ → ℕ → List ℕ
+charColumn bytes len first n = pieces (λ j. dumpChar bytes len ((first + j) * 8) ∷ []) n
+
+-- A line of n bytes: the address of its first byte, filled with zeros to a width, its bytes in digits and its bytes as characters.
 unfoldable pub dumpLine : List ℕ → ℕ → ℕ → ℕ → ℕ → ℕ → List ℕ
 dumpLine bytes len w n width first =
     ascii " " ++ (padded (code "0") width (numberText Lower 16 first)
-    ++ (ascii " | " ++ (joined (λ j. every 4 j (ascii " ")) (λ j. dumpByte bytes len w ((first + j) * 8)) n
-    ++ (ascii "| " ++ (pieces (λ j. dumpChar bytes len ((first + j) * 8) ∷ []) n
+    ++ (ascii " | " ++ (digitColumn bytes len w first n
+    ++ (ascii "| " ++ (charColumn bytes len first n
     ++ ascii " |\n")))))

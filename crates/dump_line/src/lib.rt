@@ -1,16 +1,17 @@
 // One line of the dump of an image (document 01, module 6): its address, its bytes in digits and its
 // bytes as characters.
 ghost use mathlib.Core.Path.{_≡_};
-ghost use mathlib.Core.List.{List, [], _∷_};
+ghost use mathlib.Core.Bool.{cond};
+ghost use mathlib.Core.List.{List};
 ghost use Prim.Native.Nat.{ℕ, _+_, _*_, _/_, _≤_, _<_, _^_};
 ghost use lib.ListN.{length};
-ghost use Rattle.output.specs.Pieces.{pieces, joined, leading, every};
-ghost use Rattle.output.specs.Ascii.{ascii};
 ghost use Rattle.output.specs.Writes.{Writes};
 ghost use Rattle.numbers.specs.Digits.{digitCount};
-ghost use Rattle.dump_line.specs.Line.{dumpDigit, printed, dumpChar, dumpByte, dumpLine};
+ghost use Rattle.rows.specs.Rows.{digitBits};
+ghost use Rattle.dump_line.specs.Line.{dumpDigit, printed, dumpChar, dumpByte, digitColumn, charColumn, dumpLine};
 use bitvec::BitOffset;
 use numbers::Letters;
+use rows::ByteDigits;
 
 // The character of a digit of `width` bits, a point where it starts past the end.
 fn dump_digit(image: &[u8], bits: usize, width: usize, from: BitOffset) -> u8
@@ -25,17 +26,25 @@ fn dump_digit(image: &[u8], bits: usize, width: usize, from: BitOffset) -> u8
     numbers::digit_char(Letters::Lower, digit)
 }
 
-// The character that a byte is printed as.
+// One of two characters.
+fn choose(test: bool, yes: u8, no: u8) -> u8
+    ensures { λ r. ⌜ r ≡ cond test yes no ⌝ }
+{
+    if test { yes } else { no }
+}
+
+// The character that a byte is printed as: one choice after the other, so that no branch goes by the
+// byte and many bytes can be done at once.
 fn printed(byte: u8) -> u8
     ensures { λ r. ⌜ r ≡ printed byte ⌝ }
 {
-    if byte == b' ' || byte == b'\t' || byte == b'\r' || byte == b'\n' {
-        return b' ';
-    }
-    if 127 < byte || byte < b' ' || byte == b'|' {
-        return b'.';
-    }
-    byte
+    let mut shown = choose(byte == b'|', b'.', byte);
+    shown = choose(byte < b' ', b'.', shown);
+    shown = choose(127 < byte, b'.', shown);
+    shown = choose(byte == b'\n', b' ', shown);
+    shown = choose(byte == b'\r', b' ', shown);
+    shown = choose(byte == b'\t', b' ', shown);
+    choose(byte == b' ', b' ', shown)
 }
 
 // The character of a byte of the image, a point where it starts past the end.
@@ -85,8 +94,8 @@ fn put_digit_column(
     first: usize,
     count: usize,
 ) -> usize
-    requires { ⌜ (0 < width) × (width ≤ 4) × (first < 2 ^ 32) × (count ≤ 64) × (at + length (joined (λ j. every 4 j (ascii " ")) (λ j. dumpByte (now image) bits width ((first + j) * 8)) count) ≤ length (now out)) ⌝ }
-    ensures { λ r. ⌜ Writes (joined (λ j. every 4 j (ascii " ")) (λ j. dumpByte (now (image .entry)) bits width ((first + j) * 8)) count) (now (out .entry)) at (now (out .exit)) r ⌝ }
+    requires { ⌜ (0 < width) × (width ≤ 4) × (first < 2 ^ 32) × (count ≤ 64) × (at + length (digitColumn (now image) bits width first count) ≤ length (now out)) ⌝ }
+    ensures { λ r. ⌜ Writes (digitColumn (now (image .entry)) bits width first count) (now (out .entry)) at (now (out .exit)) r ⌝ }
 {
     let mut next = at;
     let mut j = 0;
@@ -108,7 +117,7 @@ fn put_char_column(
     count: usize,
 ) -> usize
     requires { ⌜ (first < 2 ^ 32) × (count ≤ 64) × (at + count ≤ length (now out)) ⌝ }
-    ensures { λ r. ⌜ Writes (pieces (λ j. dumpChar (now (image .entry)) bits ((first + j) * 8) ∷ []) count) (now (out .entry)) at (now (out .exit)) r ⌝ }
+    ensures { λ r. ⌜ Writes (charColumn (now (image .entry)) bits first count) (now (out .entry)) at (now (out .exit)) r ⌝ }
 {
     let mut next = at;
     let mut j = 0;
@@ -118,6 +127,100 @@ fn put_char_column(
         j += 1;
     }
     next
+}
+
+// Stores the `count` bytes of a line from byte `first` on, which are whole bytes of the image: groups of
+// four with a space between them.
+fn put_groups(
+    out: &mut [u8],
+    at: usize,
+    kind: ByteDigits,
+    image: &[u8],
+    bits: usize,
+    first: usize,
+    count: usize,
+) -> usize
+    requires inside { ⌜ (0 < count) × ((first + count) * 8 ≤ bits) × (first + count ≤ length (now image)) ⌝ }
+    requires room { ⌜ at + length (digitColumn (now image) bits (digitBits kind) first count) ≤ length (now out) ⌝ }
+    ensures { λ r. ⌜ Writes (digitColumn (now (image .entry)) bits (digitBits kind) first count) (now (out .entry)) at (now (out .exit)) r ⌝ }
+{
+    let mut next = at;
+    let mut j = 0;
+    while 4 < count - j {
+        next = rows::put_rows(out, next, kind, image, bits, first + j, 1, b" ", 4);
+        next = output::put(out, next, b' ');
+        j += 4;
+    }
+    rows::put_rows(out, next, kind, image, bits, first + j, 1, b" ", count - j)
+}
+
+// Stores the `count` bytes of a line from byte `first` on, which are whole bytes of the image, as
+// characters.
+fn put_whole_chars(
+    out: &mut [u8],
+    at: usize,
+    image: &[u8],
+    bits: usize,
+    first: usize,
+    count: usize,
+) -> usize
+    requires inside { ⌜ ((first + count) * 8 ≤ bits) × (first + count ≤ length (now image)) ⌝ }
+    requires room { ⌜ at + count ≤ length (now out) ⌝ }
+    ensures { λ r. ⌜ Writes (charColumn (now (image .entry)) bits first count) (now (out .entry)) at (now (out .exit)) r ⌝ }
+{
+    let mut next = at;
+    for j in 0..count {
+        let byte = image[first + j];
+        next = output::put(out, next, printed(byte));
+    }
+    next
+}
+
+// Stores the `count` bytes of a line from byte `first` on, in digits of `width` bits.
+fn put_digits(
+    out: &mut [u8],
+    at: usize,
+    image: &[u8],
+    bits: usize,
+    width: usize,
+    first: usize,
+    count: usize,
+) -> usize
+    requires size { ⌜ (0 < width) × (width ≤ 4) × (first < 2 ^ 32) × (0 < count) × (count ≤ 64) × (bits ≤ 8 * length (now image)) ⌝ }
+    requires room { ⌜ at + length (digitColumn (now image) bits width first count) ≤ length (now out) ⌝ }
+    ensures { λ r. ⌜ Writes (digitColumn (now (image .entry)) bits width first count) (now (out .entry)) at (now (out .exit)) r ⌝ }
+{
+    if (first + count) * 8 <= bits {
+        if width == 1 {
+            return put_groups(out, at, ByteDigits::Binary, image, bits, first, count);
+        }
+        if width == 4 {
+            return put_groups(out, at, ByteDigits::Hex, image, bits, first, count);
+        }
+    }
+    put_digit_column(out, at, image, bits, width, first, count)
+}
+
+// Stores the `count` bytes of a line from byte `first` on, as characters. The eight bytes of a line of a
+// bindump are too few for a loop of any number of turns to do many at once; one of eight turns does.
+fn put_chars(
+    out: &mut [u8],
+    at: usize,
+    image: &[u8],
+    bits: usize,
+    first: usize,
+    count: usize,
+) -> usize
+    requires { ⌜ (first < 2 ^ 32) × (count ≤ 64) × (bits ≤ 8 * length (now image)) × (at + count ≤ length (now out)) ⌝ }
+    ensures { λ r. ⌜ Writes (charColumn (now (image .entry)) bits first count) (now (out .entry)) at (now (out .exit)) r ⌝ }
+{
+    if (first + count) * 8 <= bits {
+        if count == 8 {
+            return put_whole_chars(out, at, image, bits, first, 8);
+        }
+        return put_whole_chars(out, at, image, bits, first, count);
+    }
+    put_char_column(out, at, image, bits, first, count)
 }
 
 // The length of a line of `count` bytes whose address is filled to `address` digits.
@@ -140,14 +243,15 @@ pub fn put_line(
     address: usize,
     first: usize,
 ) -> usize
-    requires { ⌜ (0 < width) × (width ≤ 4) × (first < 2 ^ 32) × (count ≤ 64) × (at + length (dumpLine (now image) bits width count address first) ≤ length (now out)) ⌝ }
+    requires size { ⌜ (0 < width) × (width ≤ 4) × (first < 2 ^ 32) × (0 < count) × (count ≤ 64) × (bits ≤ 8 * length (now image)) × (digitCount 16 first ≤ address) ⌝ }
+    requires room { ⌜ at + length (dumpLine (now image) bits width count address first) ≤ length (now out) ⌝ }
     ensures { λ r. ⌜ Writes (dumpLine (now (image .entry)) bits width count address first) (now (out .entry)) at (now (out .exit)) r ⌝ }
 {
     let mut next = output::put(out, at, b' ');
-    next = numbers::put_padded(out, next, Letters::Lower, first as u64, 16, b'0', address);
+    next = numbers::put_column(out, next, Letters::Lower, first as u64, 16, b'0', address);
     next = output::put_all(out, next, b" | ");
-    next = put_digit_column(out, next, image, bits, width, first, count);
+    next = put_digits(out, next, image, bits, width, first, count);
     next = output::put_all(out, next, b"| ");
-    next = put_char_column(out, next, image, bits, first, count);
+    next = put_chars(out, next, image, bits, first, count);
     output::put_all(out, next, b" |\n")
 }

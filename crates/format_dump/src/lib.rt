@@ -69,7 +69,9 @@ fn write_dump(
     address: usize,
     out: &mut [u8],
 ) -> usize
-    requires { ⌜ (0 < width) × (width ≤ 4) × (0 < count) × (count ≤ 64) × (bits ≤ 16777216) × (lines ≡ dumpLines bits count) × (address ≡ digitCount 16 ((lines - 1) * count)) × (length (dumpText (now image) bits width count) ≤ length (now out)) ⌝ }
+    requires size { ⌜ (0 < width) × (width ≤ 4) × (0 < count) × (count ≤ 64) × (bits ≤ 16777216) × (bits ≤ 8 * length (now image)) ⌝ }
+    requires lines { ⌜ (lines ≡ dumpLines bits count) × (address ≡ digitCount 16 ((lines - 1) * count)) ⌝ }
+    requires room { ⌜ length (dumpText (now image) bits width count) ≤ length (now out) ⌝ }
     ensures { λ r. ⌜ Writes (dumpText (now (image .entry)) bits width count) (now (out .entry)) 0 (now (out .exit)) r ⌝ }
 {
     let mut first = 0;

@@ -1,16 +1,19 @@
 // The image file of Logisim (document 01, module 5; the Rust's `format_logisim`). It answers a text
 // and its length, or refusal 1, 2 or 8.
 ghost use mathlib.Core.Path.{_≡_};
+ghost use mathlib.Core.Bool.{cond};
 ghost use mathlib.Core.List.{List};
-ghost use Prim.Native.Nat.{ℕ, _+_, _≤_, _<_, _^_};
+ghost use Prim.Native.Nat.{ℕ, _+_, _-_, _*_, _/_, _%_, _≤_, _<_, _^_};
+ghost use lib.Dec.{eqb};
 ghost use lib.ListN.{length};
 ghost use Rattle.bitvec.specs.Size.{ceilDiv};
 ghost use Rattle.output.specs.Pieces.{pieces};
 ghost use Rattle.output.specs.Writes.{Writes};
 ghost use Rattle.outcome.specs.Outcome.{Exports};
-ghost use Rattle.format_logisim.specs.Logisim.{chunkText, chunkAt, logisimText, logisimOutcome};
+ghost use Rattle.format_logisim.specs.Logisim.{chunkText, chunkAt, breaks, perLine, logisimText, logisimOutcome};
 use bitvec::BitOffset;
 use outcome::Export;
+use rows::ByteDigits;
 
 // The length of a chunk of `count` bits from `from` on, whatever the image.
 fn chunk_length(from: usize, count: usize) -> usize
@@ -24,21 +27,51 @@ fn chunk_length(from: usize, count: usize) -> usize
     digits + 1
 }
 
+// 1 where a newline follows the chunk that ends at a bit, and 0 where not.
+fn newline(end: usize) -> usize
+    ensures { λ r. ⌜ r ≡ cond (eqb (end / 8 % 16) 0) 1 0 ⌝ }
+{
+    if end / 8 % 16 == 0 { 1 } else { 0 }
+}
+
+// How many newlines follow the first `count` chunks of `width` bits.
+fn breaks(width: usize, count: usize) -> usize
+    requires { ⌜ (width ≤ 4096) × (count ≤ 128) ⌝ }
+    ensures { λ r. ⌜ (r ≡ breaks width count) × (r ≤ count) ⌝ }
+{
+    let mut end = 0;
+    let mut total: usize = 0;
+    let mut k = 0;
+    while k < count {
+        end += width;
+        total += newline(end);
+        k += 1;
+    }
+    total
+}
+
+// The length of the first `count` chunks, all of them whole. Where newlines follow is the same for
+// each 128 chunks.
+fn whole_length(width: usize, count: usize) -> usize
+    requires { ⌜ (width ≤ 4096) × (count ≤ 16777216) ⌝ }
+    ensures { λ r. ⌜ r ≡ count * ((width + 3) / 4 + 1) + breaks width count ⌝ }
+{
+    let digits = bitvec::parts(width, 4);
+    let lines = count / 128 * breaks(width, 128);
+    count * (digits + 1) + (lines + breaks(width, count % 128))
+}
+
 // The length of the first `chunks` chunks, whatever the image.
 fn chunks_length(bits: usize, width: usize, chunks: usize) -> usize
     requires { ⌜ (0 < width) × (width ≤ 4096) × (bits ≤ 16777216) × (chunks ≡ ceilDiv bits width) ⌝ }
     ensures { λ r. ⌜ ((bytes : List ℕ) → length (pieces (chunkAt bytes bits width) chunks) ≡ r) × (r < 2 ^ 40) ⌝ }
 {
-    let mut offset = 0;
-    let mut total: usize = 0;
-    let mut k = 0;
-    while k < chunks {
-        let count = digits::least(width, bits - offset);
-        total += chunk_length(offset, count);
-        offset += width;
-        k += 1;
+    let full = bits / width;
+    let whole = whole_length(width, full);
+    if chunks == full {
+        return whole;
     }
-    total
+    whole + chunk_length(full * width, bits - full * width)
 }
 
 // Stores a chunk of `count` bits from `from` on.
@@ -59,21 +92,116 @@ fn put_chunk(
     output::put_every(out, next, 16, end / 8, b'\n')
 }
 
-// Stores the file, of `chunks` chunks.
-fn write_logisim(image: &[u8], bits: usize, width: usize, chunks: usize, out: &mut [u8]) -> usize
-    requires { ⌜ (0 < width) × (width ≤ 4096) × (bits ≤ 16777216) × (chunks ≡ ceilDiv bits width) × (length (logisimText (now image) bits width) ≤ length (now out)) ⌝ }
-    ensures { λ r. ⌜ Writes (logisimText (now (image .entry)) bits width) (now (out .entry)) 0 (now (out .exit)) r ⌝ }
+// Stores the chunks from chunk `first` on, of `chunks` chunks.
+fn put_chunks(
+    out: &mut [u8],
+    at: usize,
+    image: &[u8],
+    bits: usize,
+    width: usize,
+    first: usize,
+    chunks: usize,
+) -> usize
+    requires size { ⌜ (0 < width) × (width ≤ 4096) × (bits ≤ 16777216) × (chunks ≡ ceilDiv bits width) × (first ≤ chunks) ⌝ }
+    requires room { ⌜ at + length (pieces (λ k. chunkAt (now image) bits width (first + k)) (chunks - first)) ≤ length (now out) ⌝ }
+    ensures { λ r. ⌜ Writes (pieces (λ k. chunkAt (now (image .entry)) bits width (first + k)) (chunks - first)) (now (out .entry)) at (now (out .exit)) r ⌝ }
 {
-    let mut next = output::put_all(out, 0, b"v2.0 raw\n");
-    let mut offset = 0;
-    let mut k = 0;
-    while k < chunks {
+    let mut offset = first * width;
+    let mut next = at;
+    let mut i = first;
+    while i < chunks {
         let count = digits::least(width, bits - offset);
         next = put_chunk(out, next, image, bits, BitOffset(offset), count);
         offset += width;
+        i += 1;
+    }
+    next
+}
+
+// Stores `lines` lines of 16 whole bytes of the image: `count` chunks of `size` bytes each.
+fn put_lines(
+    out: &mut [u8],
+    at: usize,
+    image: &[u8],
+    bits: usize,
+    size: usize,
+    count: usize,
+    lines: usize,
+) -> usize
+    requires inside { ⌜ (0 < size) × (0 < count) × (size * count ≡ 16) × (lines * 128 ≤ bits) × (bits ≤ 8 * length (now image)) ⌝ }
+    requires room { ⌜ at + length (pieces (chunkAt (now image) bits (size * 8)) (lines * count)) ≤ length (now out) ⌝ }
+    ensures { λ r. ⌜ Writes (pieces (chunkAt (now (image .entry)) bits (size * 8)) (lines * count)) (now (out .entry)) at (now (out .exit)) r ⌝ }
+{
+    let mut next = at;
+    let mut k = 0;
+    while k < lines {
+        next = rows::put_rows(
+            out,
+            next,
+            ByteDigits::Hex,
+            image,
+            bits,
+            k * 16,
+            size,
+            b" ",
+            count,
+        );
+        next = output::put(out, next, b'\n');
         k += 1;
     }
     next
+}
+
+// How many chunks make a line of 16 bytes, where they are short and of whole bytes. Longer chunks are
+// as fast one by one.
+fn per_line(width: usize) -> usize
+    ensures { λ r. ⌜ (r ≡ perLine width) × (r ≤ 16) × (r * width ≤ 128) ⌝ }
+{
+    if width == 8 {
+        return 16;
+    }
+    if width == 16 {
+        return 8;
+    }
+    if width == 32 { 4 } else { 0 }
+}
+
+// Stores `lines` lines of 16 whole bytes of the image, where chunks of `width` bits make such lines.
+fn put_whole(
+    out: &mut [u8],
+    at: usize,
+    image: &[u8],
+    bits: usize,
+    width: usize,
+    lines: usize,
+) -> usize
+    requires inside { ⌜ (lines * 128 ≤ bits) × (bits ≤ 8 * length (now image)) ⌝ }
+    requires room { ⌜ at + length (pieces (chunkAt (now image) bits width) (lines * perLine width)) ≤ length (now out) ⌝ }
+    ensures { λ r. ⌜ Writes (pieces (chunkAt (now (image .entry)) bits width) (lines * perLine width)) (now (out .entry)) at (now (out .exit)) r ⌝ }
+{
+    if width == 8 {
+        return put_lines(out, at, image, bits, 1, 16, lines);
+    }
+    if width == 16 {
+        return put_lines(out, at, image, bits, 2, 8, lines);
+    }
+    if width == 32 {
+        return put_lines(out, at, image, bits, 4, 4, lines);
+    }
+    at
+}
+
+// Stores the file, of `chunks` chunks: those that make lines of 16 whole bytes, and then the others.
+fn write_logisim(image: &[u8], bits: usize, width: usize, chunks: usize, out: &mut [u8]) -> usize
+    requires size { ⌜ (0 < width) × (width ≤ 4096) × (bits ≤ 16777216) × (bits ≤ 8 * length (now image)) × (chunks ≡ ceilDiv bits width) ⌝ }
+    requires room { ⌜ length (logisimText (now image) bits width) ≤ length (now out) ⌝ }
+    ensures { λ r. ⌜ Writes (logisimText (now (image .entry)) bits width) (now (out .entry)) 0 (now (out .exit)) r ⌝ }
+{
+    let lines = bits / 128;
+    let whole = lines * per_line(width);
+    let mut next = output::put_all(out, 0, b"v2.0 raw\n");
+    next = put_whole(out, next, image, bits, width, lines);
+    put_chunks(out, next, image, bits, width, whole, chunks)
 }
 
 // Chunks of 1 to 4,096 bits in hexadecimal.

@@ -45,54 +45,54 @@ from-address s = address s ++ (ascii " | " ++ from-digits s)
 abbrev start : tie.After-put → tie.Start
 start c = c .before .before .before .before
 
-abbrev first-of : tie.After-put-padded → tie.After-put
+abbrev first-of : tie.After-put-column → tie.After-put
 first-of c = c .before .before .before .before
 
-abbrev address-of : tie.After-put-all → tie.After-put-padded
+abbrev address-of : tie.After-put-all → tie.After-put-column
 address-of c = c .before .before .before .before .before
 
-abbrev bar-of : tie.After-put-digit-column → tie.After-put-all
+abbrev bar-of : tie.After-put-digits → tie.After-put-all
 bar-of c = c .before .before .before .before
 
-abbrev digits-of : tie.After-put-all2 → tie.After-put-digit-column
+abbrev digits-of : tie.After-put-all2 → tie.After-put-digits
 digits-of c = c .before .before .before .before .before
 
-abbrev bar2-of : tie.After-put-char-column → tie.After-put-all2
+abbrev bar2-of : tie.After-put-chars → tie.After-put-all2
 bar2-of c = c .before .before .before .before
 
 -- behind each writer, room for the rest of the line
 room-address : (c : tie.After-put) → c .put .result + length (from-address (start c)) ≤ length (c .put .last .0)
 unfolding dumpLine
-room-address c = room-then (from-address (start c)) (c .put .ensures) (start c .pre .4)
+room-address c = room-then (from-address (start c)) (c .put .ensures) (start c .pre .1)
 
-room-bar : (c : tie.After-put-padded) → c .put-padded .result + length (ascii " | " ++ from-digits (start (first-of c))) ≤ length (c .put-padded .last .0)
-room-bar c = room-then (ascii " | " ++ from-digits (start (first-of c))) (c .put-padded .ensures) (room-address (first-of c))
+room-bar : (c : tie.After-put-column) → c .put-column .result + length (ascii " | " ++ from-digits (start (first-of c))) ≤ length (c .put-column .last .0)
+room-bar c = room-then (ascii " | " ++ from-digits (start (first-of c))) (c .put-column .ensures) (room-address (first-of c))
 
 room-digits : (c : tie.After-put-all) → c .put-all .result + length (from-digits (start (first-of (address-of c)))) ≤ length (c .put-all .last .0)
 room-digits c = room-then (from-digits (start (first-of (address-of c)))) (c .put-all .ensures) (room-bar (address-of c))
 
-room-bar2 : (c : tie.After-put-digit-column)
-    → c .put-digit-column .result + length (ascii "| " ++ from-chars (start (first-of (address-of (bar-of c))))) ≤ length (c .put-digit-column .last .0)
-room-bar2 c = room-then (ascii "| " ++ from-chars (start (first-of (address-of (bar-of c))))) (c .put-digit-column .ensures) (room-digits (bar-of c))
+room-bar2 : (c : tie.After-put-digits)
+    → c .put-digits .result + length (ascii "| " ++ from-chars (start (first-of (address-of (bar-of c))))) ≤ length (c .put-digits .last .0)
+room-bar2 c = room-then (ascii "| " ++ from-chars (start (first-of (address-of (bar-of c))))) (c .put-digits .ensures) (room-digits (bar-of c))
 
 room-chars : (c : tie.After-put-all2)
     → c .put-all2 .result + length (from-chars (start (first-of (address-of (bar-of (digits-of c)))))) ≤ length (c .put-all2 .last .0)
 room-chars c = room-then (from-chars (start (first-of (address-of (bar-of (digits-of c)))))) (c .put-all2 .ensures) (room-bar2 (digits-of c))
 
-room-end : (c : tie.After-put-char-column) → c .put-char-column .result + length (ascii " |\n") ≤ length (c .put-char-column .last .0)
-room-end c = room-then (ascii " |\n") (c .put-char-column .ensures) (room-chars (bar2-of c))
+room-end : (c : tie.After-put-chars) → c .put-chars .result + length (ascii " |\n") ≤ length (c .put-chars .last .0)
+room-end c = room-then (ascii " |\n") (c .put-chars .ensures) (room-chars (bar2-of c))
 
 put-requires : tie.Need-put-requires
 unfolding dumpLine
 put-requires c κs = omega arith
 
-put-padded-requires : tie.Need-put-padded-requires
-put-padded-requires c κs =
+put-column-requires : tie.Need-put-column-requires
+put-column-requires c κs =
     let called = c .before .before .before in
     let s = start called in
     let wide = padded-length 48 (s .args .address) (numberText Lower 16 (s .args .first)) in
     let number = number-length Lower 16 (s .args .first) in
-    (omega arith, omega arith, omega (arith, room-address called, length-append (address s) (ascii " | " ++ from-digits s)))
+    ((omega arith, omega arith), (s .pre .0 .6, omega (arith, room-address called, length-append (address s) (ascii " | " ++ from-digits s))))
 
 slice-aggregate-put-all : tie.Need-slice-aggregate-put-all
 slice-aggregate-put-all c = search needs
@@ -100,16 +100,12 @@ slice-aggregate-put-all c = search needs
 put-all-requires : tie.Need-put-all-requires
 put-all-requires c κs = omega (arith, room-bar (c .before .before .before .before))
 
-put-digit-column-requires : tie.Need-put-digit-column-requires
-put-digit-column-requires c κs =
+put-digits-requires : tie.Need-put-digits-requires
+put-digits-requires c κs =
     let called = c .before .before .before in
-    let s = start (first-of (address-of called)) in (
-      s .pre .0,
-      s .pre .1,
-      s .pre .2,
-      s .pre .3,
-      omega (arith, room-digits called, length-append (digits s) (ascii "| " ++ from-chars s)),
-    )
+    let s = start (first-of (address-of called)) in
+    let size = s .pre .0 in
+    ((size .0, size .1, size .2, size .3, size .4, size .5), omega (arith, room-digits called, length-append (digits s) (ascii "| " ++ from-chars s)))
 
 slice-aggregate-put-all-2 : tie.Need-slice-aggregate-put-all-2
 slice-aggregate-put-all-2 c = search needs
@@ -117,12 +113,12 @@ slice-aggregate-put-all-2 c = search needs
 put-all-requires-2 : tie.Need-put-all-requires-2
 put-all-requires-2 c κs = omega (arith, room-bar2 (c .before .before .before .before))
 
-put-char-column-requires : tie.Need-put-char-column-requires
-put-char-column-requires c κs =
+put-chars-requires : tie.Need-put-chars-requires
+put-chars-requires c κs =
     let called = c .before .before .before in
     let s = start (first-of (address-of (bar-of (digits-of called)))) in
     let one = pieces-length (λ j. dumpChar (s .args .image .now) (s .args .bits) ((s .args .first + j) * 8) ∷ []) 1 (s .args .count) (λ j h. refl) in
-    (s .pre .2, s .pre .3, omega (arith, room-chars called, length-append (chars s) (ascii " |\n")))
+    (s .pre .0 .2, s .pre .0 .4, s .pre .0 .5, omega (arith, room-chars called, length-append (chars s) (ascii " |\n")))
 
 slice-aggregate-put-all-3 : tie.Need-slice-aggregate-put-all-3
 slice-aggregate-put-all-3 c = search needs
@@ -144,11 +140,11 @@ returns c =
     let number = address-of bar in
     let s = start (first-of number) in
     writes-then (first-of number .put .ensures)
-    (writes-then {a = address s} (number .put-padded .ensures)
+    (writes-then {a = address s} (number .put-column .ensures)
     (writes-then {a = ascii " | "} (bar .put-all .ensures)
-    (writes-then {a = digits s} (digit .put-digit-column .ensures)
+    (writes-then {a = digits s} (digit .put-digits .ensures)
     (writes-then {a = ascii "| "} (bar2 .put-all2 .ensures)
-    (writes-then {a = chars s} (char .put-char-column .ensures)
+    (writes-then {a = chars s} (char .put-chars .ensures)
     (end .put-all3 .ensures))))))
 
 pub put-line-spec : {M : Type 1} → statement M
@@ -156,13 +152,13 @@ put-line-spec =
     tie.close
     (tie.spec
     put-requires
-    put-padded-requires
+    put-column-requires
     slice-aggregate-put-all
     put-all-requires
-    put-digit-column-requires
+    put-digits-requires
     slice-aggregate-put-all-2
     put-all-requires-2
-    put-char-column-requires
+    put-chars-requires
     slice-aggregate-put-all-3
     put-all-requires-3
     same-length

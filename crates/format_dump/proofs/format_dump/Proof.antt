@@ -141,8 +141,11 @@ write-dump-requires : tie.Need-write-dump-requires
 write-dump-requires c κs =
     let line = c .before .before in
     let counted = line .before in
-    let b = bounds (counted .before .before) in
-    (b .0, b .1, b .2, b .3, b .4, counted .before .dump-lines .ensures, counted .digit-count .ensures, omega (arith, measured line))
+    let ranges = counted .before .before in
+    let b = bounds ranges in
+    let a = start ranges .args in
+    let size = size-good (a .image .now) (a .bits) (sized (ranges .before .before)) .1 in
+    ((b .0, b .1, b .2, b .3, b .4, size), ((counted .before .dump-lines .ensures, counted .digit-count .ensures), omega (arith, measured line)))
 
 same-length : tie.Need-same-length
 same-length c = search needs

@@ -3,7 +3,7 @@
 use mathlib.Core.Path.{_≡_, refl, ap}
 use mathlib.Core.List.{List}
 use Prim.Native.Nat.{ℕ, _+_, _-_, _*_, _≤_, _<_, _^_}
-use native.Mathlib.Nat.{zero-mul, suc-mul}
+use native.Mathlib.Nat.{zero-mul, suc-mul, mul-le-mul-right}
 use native.Mathlib.Omega.{arith}
 use lib.ListN.{length}
 use borrow.Author.Needs.{needs}
@@ -11,6 +11,8 @@ use Rattle.output.specs.Pieces.{pieces}
 use Rattle.output.specs.Writes.{Writes}
 use Rattle.output.proofs.Pieces.{pieces-none, pieces-next, pieces-room}
 use Rattle.output.proofs.Writes.{writes-nothing, writes-then}
+use Rattle.numbers.specs.Digits.{digitCount}
+use Rattle.numbers.proofs.Digits.{count-rises}
 use Rattle.digits.proofs.Parts.{stride}
 use Rattle.dump_line.specs.Line.{dumpLine}
 use Rattle.format_dump.specs.Dump.{dumpText}
@@ -38,7 +40,7 @@ whole : (c : tie.Start Inv-loop μ-loop)
     dumpText (a .image .now) (a .bits) (a .width) (a .count) ≡ pieces (line (a .image .now) (a .bits) (a .width) (a .count) (a .address)) (a .lines))
 whole c =
     let a = c .args in
-    text-lines (a .image .now) (a .bits) (a .width) (a .count) (a .lines) (a .address) (c .pre .5) (c .pre .6)
+    text-lines (a .image .now) (a .bits) (a .width) (a .count) (a .lines) (a .address) (c .pre .1 .0 .0) (c .pre .1 .0 .1)
 
 -- in a turn there is room for the line
 room : (c : tie.In-loop Inv-loop μ-loop)
@@ -58,8 +60,16 @@ low c =
     let l = c .before .loop in
     let start = c .before .before .before .before in
     let a = start .args in
-    let reach = rw (← start .pre .5) at (lines-reach (a .bits) (a .count) (start .pre .2)) in
+    let reach = rw (← start .pre .1 .0 .0) at (lines-reach (a .bits) (a .count) (start .pre .0 .2)) in
     omega (arith, stride (l .k) (a .lines) (a .count) (c .loop-test .taken))
+
+-- and its address has no more digits than the last one
+address-fits : (c : tie.In-loop Inv-loop μ-loop) → digitCount 16 (c .before .loop .first) ≤ c .before .before .before .before .args .address
+address-fits c =
+    let l = c .before .loop in
+    let start = c .before .before .before .before in
+    let a = start .args in
+    rw (start .pre .1 .0 .1, l .inv .1) (count-rises 16 (omega arith) (l .k * a .count) ((a .lines - 1) * a .count) (mul-le-mul-right (a .count) (omega arith)))
 
 loop-holds : tie.Need-loop-holds Inv-loop μ-loop
 loop-holds c = (search needs, rw zero-mul, rw pieces-none (writes-nothing _ _), refl)
@@ -68,7 +78,8 @@ put-line-requires : tie.Need-put-line-requires Inv-loop μ-loop
 put-line-requires c κs =
     let turn = c .before in
     let start = turn .before .before .before .before in
-    (start .pre .0, start .pre .1, omega (arith, low turn), start .pre .3, rw (turn .before .loop .inv .1) (room turn))
+    let size = start .pre .0 in
+    ((size .0, size .1, omega (arith, low turn), size .2, size .3, size .5, address-fits turn), rw (turn .before .loop .inv .1) (room turn))
 
 add-first : tie.Need-add-first Inv-loop μ-loop
 add-first c = omega (arith, low (c .before .before .before .before))

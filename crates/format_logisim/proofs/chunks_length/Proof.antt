@@ -1,110 +1,101 @@
--- `format_logisim::chunks_length` meets its contract: after k turns the total is the length of k chunks.
+-- `format_logisim::chunks_length` meets its contract: the whole chunks, and a short one where there is one.
 -- Assumes nothing.
-use mathlib.Core.Path.{_≡_, ap, _∙_}
-use mathlib.Core.List.{List, []}
-use Prim.Native.Nat.{ℕ, _-_, _*_, _≤_, _<_}
-use native.Mathlib.Nat.{zero-mul, suc-mul}
+use mathlib.Core.Path.{_≡_, sym, _∙_}
+use mathlib.Core.List.{[]}
+use Prim.Native.Nat.{_+_, _-_, _*_, _/_, _≤_, _<_, _^_, min}
+use native.Mathlib.Nat.{mul-le-mul, div-le-self, div-mul-le-self, div-add-mod', mod-lt}
 use native.Mathlib.Omega.{arith}
-use lib.ListN.{length, length-append}
+use lib.ListN.{length-append}
 use borrow.Author.Needs.{needs}
-use Rattle.bitvec.proofs.Size.{ceil-inside, ceil-most}
 use Rattle.output.specs.Pieces.{pieces}
-use Rattle.output.proofs.Pieces.{pieces-none, pieces-next}
+use Rattle.output.proofs.Pieces.{pieces-next}
 use Rattle.digits.specs.Parts.{partBits}
-use Rattle.format_logisim.specs.Logisim.{chunkAt}
-use Rattle.format_logisim.proofs.Lengths.{chunk-most}
+use Rattle.format_logisim.specs.Logisim.{chunkAt, breaks}
+use Rattle.format_logisim.proofs.Lengths.{chunk-most, breaks-most, whole-length, one-more}
 use Rattle.format_logisim.proofs.chunks_length.Statement.{statement}
 use Rattle.format_logisim.proofs.chunks_length.Tie as tie
 
-abbrev Inv-loop : tie.InvT-loop
-Inv-loop bits width chunks offset₀ total₀ k₀ offset total k =
-    (k ≤ chunks) × (offset ≡ k * width) × (total ≤ k * 1026) × ((bytes : List ℕ) → length (pieces (chunkAt bytes bits width) k) ≡ total)
+-- there are no more whole chunks than bits, and they are within the image
+few : (c : tie.Start) → c .args .bits / c .args .width ≤ 16777216
+few c = omega (arith, div-le-self (c .args .bits) (c .args .width), c .pre .2)
 
-abbrev μ-loop : tie.MeasureT-loop
-μ-loop bits width chunks offset₀ total₀ k₀ offset total k = chunks - k
-
--- in a turn the chunk starts within the image
-starts : (c : tie.In-loop Inv-loop μ-loop) → c .before .loop .k * c .before .before .args .width < c .before .before .args .bits
-starts c =
-    let start = c .before .before in
-    ceil-inside (start .args .bits) (start .args .width) (c .before .loop .k) (start .pre .0) (omega arith)
-
--- the code measures chunk k
-measured : (c : tie.After-chunk-length Inv-loop μ-loop) (bytes : List ℕ)
-    → length (chunkAt bytes (c .before .before .before .before .args .bits) (c .before .before .before .before .args .width) (c .before .before .before .loop .k)) ≡ c .chunk-length .result
-unfolding partBits
-measured c bytes =
-    let a = c .before .before .before .before .args in
-    rw (← c .before .before .before .loop .inv .1, ← c .before .least .ensures) (c .chunk-length .ensures bytes (a .bits))
-
--- there are no more chunks than bits, and a chunk has at most 1026 characters
-few : (c : tie.Start Inv-loop μ-loop) → c .args .chunks ≤ 16777216
-few c = omega (arith, c .pre .2, c .pre .3, ceil-most (c .args .bits) (c .args .width) (c .pre .0))
-
-small : (c : tie.After-chunk-length Inv-loop μ-loop) → c .chunk-length .result ≤ 1026
-unfolding partBits
+small : (c : tie.After-whole-length) → c .whole-length .result < 2 ^ 39
 small c =
-    let a = c .before .before .before .before .args in
-    omega (arith, measured c [], chunk-most [] (a .bits) (c .before .before .before .loop .k * a .width) (partBits (a .bits) (a .width) (c .before .before .before .loop .k)))
+    let a = c .before .args in
+    let digits : (a .width + 3) / 4 + 1 ≤ 1025 = omega (arith, c .before .pre .1) in
+    omega (arith, c .whole-length .ensures, few (c .before), breaks-most (a .width) (a .bits / a .width), mul-le-mul {n₂ = 16777216} {m₂ = 1025} (few (c .before)) digits)
 
-loop-holds : tie.Need-loop-holds Inv-loop μ-loop
-loop-holds c = (search needs, rw zero-mul, search needs, λ bytes. ap length (pieces-none (chunkAt bytes (c .args .bits) (c .args .width))))
+-- what is left of the image is less than a chunk
+rest : (c : tie.Start) → (let a = c .args in (a .bits / a .width * a .width ≤ a .bits) × (a .bits - a .bits / a .width * a .width < a .width))
+rest c =
+    let a = c .args in
+    (div-mul-le-self (a .bits) (a .width), omega (arith, div-add-mod' (a .bits) (a .width), mod-lt (a .bits) (c .pre .0)))
 
-sub-least : tie.Need-sub-least Inv-loop μ-loop
-sub-least c = omega (arith, starts c)
+-- the short chunk is small too
+last-small : (c : tie.After-chunk-length) → c .chunk-length .result ≤ 1026
+last-small c =
+    let start = c .before .before .before in
+    let a = start .args in
+    let full = a .bits / a .width * a .width in
+    omega (arith, c .chunk-length .ensures [] 0, chunk-most [] 0 full (a .bits - full), rest start .1, start .pre .1)
 
-least-requires : tie.Need-least-requires Inv-loop μ-loop
-least-requires c κs = search needs
+div-full : tie.Need-div-full
+div-full c = search needs
 
-chunk-length-requires : tie.Need-chunk-length-requires Inv-loop μ-loop
-chunk-length-requires c κs = omega (arith, starts (c .before))
+whole-length-requires : tie.Need-whole-length-requires
+whole-length-requires c κs = (c .pre .1, few c)
 
-add-total : tie.Need-add-total Inv-loop μ-loop
-add-total c = omega (arith, few (c .before .before .before .before), small c)
-
-add-offset : tie.Need-add-offset Inv-loop μ-loop
-add-offset c = omega (arith, starts (c .before .before))
-
-add-k : tie.Need-add-k Inv-loop μ-loop
-add-k c = search needs
-
-loop-less : tie.Need-loop-less Inv-loop μ-loop
-loop-less c = search needs
-
-loop-again : tie.Need-loop-again Inv-loop μ-loop
-loop-again c =
-    let l = c .before .before .before in
-    let a = l .before .args in (
-      search needs,
-      omega (arith, suc-mul (l .loop .k) (a .width)),
-      omega (arith, small c),
-      λ bytes.
-          ap length (pieces-next (chunkAt bytes (a .bits) (a .width)) (l .loop .k))
-          ∙ length-append (pieces (chunkAt bytes (a .bits) (a .width)) (l .loop .k)) (chunkAt bytes (a .bits) (a .width) (l .loop .k))
-          ∙ rw (l .loop .inv .3 bytes, measured c bytes),
+returns : tie.Need-returns
+returns c =
+    let measured = c .before in
+    let a = measured .before .args in (
+      λ bytes. rw (c .if1 .taken) (whole-length bytes (a .bits) (a .width) (a .bits / a .width) (rest (measured .before) .0) ∙ sym (measured .whole-length .ensures)),
+      omega (arith, small measured),
     )
 
-returns : tie.Need-returns Inv-loop μ-loop
-returns c =
-    let l = c .before in
-    let start = l .before in
+mul-chunk-length : tie.Need-mul-chunk-length
+mul-chunk-length c = omega (arith, rest (c .before .before), c .before .before .pre .2)
+
+mul-chunk-length-2 : tie.Need-mul-chunk-length-2
+mul-chunk-length-2 c = omega (arith, rest (c .before .before), c .before .before .pre .2)
+
+sub-chunk-length : tie.Need-sub-chunk-length
+sub-chunk-length c = omega (arith, rest (c .before .before), c .before .before .pre .2)
+
+chunk-length-requires : tie.Need-chunk-length-requires
+chunk-length-requires c κs =
+    let start = c .before .before in
+    (omega (arith, rest start .0, start .pre .2), omega (arith, rest start .1, start .pre .1))
+
+add-result : tie.Need-add-result
+add-result c = omega (arith, small (c .before .before), last-small c)
+
+returns-2 : tie.Need-returns-2
+unfolding partBits
+returns-2 c =
+    let measured = c .before .before in
+    let start = measured .before in
     let a = start .args in
-    let done : l .loop .k ≡ a .chunks = omega arith in
-    (rw done at (l .loop .inv .3), omega (arith, few start))
+    let full = a .bits / a .width in
+    let more = rw (← start .pre .3) at (one-more (a .bits) (a .width) (start .pre .0) (λ e. c .before .if1 .left (start .pre .3 ∙ e))) in
+    let short : min (a .width) (a .bits - full * a .width) ≡ a .bits - full * a .width = omega (arith, rest start .1) in (
+      λ bytes.
+          rw (more, pieces-next)
+          (length-append (pieces (chunkAt bytes (a .bits) (a .width)) full) (chunkAt bytes (a .bits) (a .width) full)
+          ∙ rw short (omega (arith, whole-length bytes (a .bits) (a .width) full (rest start .0), c .chunk-length .ensures bytes (a .bits), measured .whole-length .ensures))),
+      omega (arith, small measured, last-small c),
+    )
 
 pub chunks-length-spec : {M : Type 1} → statement M
 chunks-length-spec =
     tie.close
     (tie.spec
-    Inv-loop
-    μ-loop
-    loop-holds
-    sub-least
-    least-requires
+    div-full
+    whole-length-requires
+    returns
+    mul-chunk-length
+    mul-chunk-length-2
+    sub-chunk-length
     chunk-length-requires
-    add-total
-    add-offset
-    add-k
-    loop-less
-    loop-again
-    returns)
+    add-result
+    returns-2)

@@ -2,7 +2,7 @@
 -- Assumes nothing.
 use mathlib.Core.Path.{_≡_, refl, sym, _∙_}
 use mathlib.Core.Bool.{false}
-use Prim.Native.Nat.{_+_, _≤_}
+use Prim.Native.Nat.{_+_, _*_, _≤_}
 use native.Mathlib.Omega.{arith}
 use lib.ListN.{length, length-append}
 use borrow.Author.Needs.{needs}
@@ -23,7 +23,7 @@ ranged : (c : tie.Else2) → outside 1 4096 (c .before .before .before .before .
 ranged c = sym (c .before .outside .ensures) ∙ c .if2 .left
 
 -- what the tests leave
-fits : (c : tie.Else2) → (let a = c .before .before .before .before .before .before .args in (1 ≤ a .bits-per-chunk) × (a .bits-per-chunk ≤ 4096) × (a .bits ≤ 16777216))
+fits : (c : tie.Else2) → (let a = c .before .before .before .before .before .before .args in (1 ≤ a .bits-per-chunk) × (a .bits-per-chunk ≤ 4096) × (a .bits ≤ 16777216) × (a .bits ≤ 8 * length (a .image .now)))
 fits c =
     let a = c .before .before .before .before .before .before .args in
     let size = size-good (a .image .now) (a .bits) (sized (c .before .before)) in
@@ -77,7 +77,7 @@ write-logisim-requires : tie.Need-write-logisim-requires
 write-logisim-requires c κs =
     let cut = c .before .before .before in
     let f = fits (cut .before) in
-    (f .0, f .1, f .2, cut .parts .ensures, omega (arith, measured (c .before .before)))
+    ((f .0, f .1, f .2, f .3, cut .parts .ensures), omega (arith, measured (c .before .before)))
 
 same-length : tie.Need-same-length
 same-length c = search needs

@@ -1,130 +1,107 @@
--- `format_logisim::write_logisim` meets its contract: after k turns k chunks are written behind the first line.
+-- `format_logisim::write_logisim` meets its contract: the first line, the chunks that make lines, and then the others.
 -- Assumes nothing.
-use mathlib.Core.Path.{_≡_, refl}
-use Prim.Native.Nat.{_+_, _-_, _*_, _≤_, _<_}
-use native.Mathlib.Nat.{zero-mul, suc-mul}
+use mathlib.Core.Path.{_≡_, ap}
+use mathlib.Core.List.{List, _++_}
+use Prim.Native.Nat.{ℕ, _+_, _-_, _*_, _/_, _≤_}
+use native.Mathlib.Nat.{mul-assoc, mul-le-mul, mul-le-mul-left}
 use native.Mathlib.Omega.{arith}
 use lib.ListN.{length, length-append}
 use borrow.Author.Needs.{needs}
-use Rattle.bitvec.specs.Size.{ceilDiv}
-use Rattle.bitvec.proofs.Size.{ceil-inside}
 use Rattle.output.specs.Ascii.{ascii}
 use Rattle.output.specs.Pieces.{pieces}
-use Rattle.output.specs.Writes.{Writes}
-use Rattle.output.proofs.Pieces.{pieces-none, pieces-next, pieces-room}
-use Rattle.output.proofs.Writes.{writes-nothing, writes-then}
-use Rattle.digits.specs.Parts.{partBits}
-use Rattle.format_logisim.specs.Logisim.{chunkText, chunkAt, logisimText}
+use Rattle.output.proofs.Writes.{writes-then, writes-length}
+use Rattle.format_logisim.specs.Logisim.{chunkAt, logisimText}
+use Rattle.format_logisim.proofs.Whole.{text-parts, chunks-most}
 use Rattle.format_logisim.proofs.write_logisim.Statement.{statement}
 use Rattle.format_logisim.proofs.write_logisim.Tie as tie
 
-abbrev Inv-loop : tie.InvT-loop
-Inv-loop image bits width chunks out₀ next₀ offset₀ k₀ out next offset k =
-    (k ≤ chunks) × (offset ≡ k * width) × Writes (pieces (chunkAt image bits width) k) out₀ next₀ out next × (length out ≡ length out₀)
+-- the chunks that make lines, and the others
+abbrev start : tie.After-per-line → tie.Start
+start c = c .before .before .before
 
-abbrev μ-loop : tie.MeasureT-loop
-μ-loop image bits width chunks out₀ next₀ offset₀ k₀ out next offset k = chunks - k
+abbrev whole : tie.After-per-line → ℕ
+whole c = start c .args .bits / 128 * c .per-line .result
 
--- there is room for the first line and for all chunks
-all : (c : tie.Start Inv-loop μ-loop)
-    → (let a = c .args in 9 + length (pieces (chunkAt (a .image .now) (a .bits) (a .width)) (a .chunks)) ≤ length (a .out .now))
-unfolding logisimText
-all c =
-    let a = c .args in
-    rw (c .pre .3)
-    (omega (arith, c .pre .4, length-append (ascii "v2.0 raw\n") (pieces (chunkAt (a .image .now) (a .bits) (a .width)) (ceilDiv (a .bits) (a .width)))))
+abbrev front : tie.After-per-line → List ℕ
+front c =
+    let a = start c .args in
+    pieces (chunkAt (a .image .now) (a .bits) (a .width)) (whole c)
 
--- in a turn the chunk starts within the image
-starts : (c : tie.In-loop Inv-loop μ-loop) → c .before .loop .k * c .before .before .before .before .before .before .before .before .before .args .width < c .before .before .before .before .before .before .before .before .before .args .bits
-starts c =
-    let start = c .before .before .before .before .before .before .before .before .before in
-    ceil-inside (start .args .bits) (start .args .width) (c .before .loop .k) (start .pre .0) (omega arith)
+abbrev others : tie.After-per-line → List ℕ
+others c =
+    let a = start c .args in
+    pieces (λ k. chunkAt (a .image .now) (a .bits) (a .width) (whole c + k)) (a .chunks - whole c)
 
--- and there is room for it
-room : (c : tie.In-loop Inv-loop μ-loop)
-    → (let a = c .before .before .before .before .before .before .before .before .before .args in
-    c .before .loop .next + length (chunkAt (a .image .now) (a .bits) (a .width) (c .before .loop .k)) ≤ length (c .before .loop .out))
+-- they are not more than all
+most : (c : tie.After-per-line) → whole c ≤ start c .args .chunks
+most c =
+    let a = start c .args in
+    let lines = a .bits / 128 in
+    let within : whole c * a .width ≤ a .bits =
+    rw (mul-assoc lines (c .per-line .result) (a .width)) (omega (arith, mul-le-mul-left lines (c .per-line .ensures .2))) in
+    omega (arith, start c .pre .0 .4, chunks-most (a .bits) (a .width) (whole c) (start c .pre .0 .0) within)
+
+-- and make the file with the first line
+text : (c : tie.After-per-line) → (let a = start c .args in logisimText (a .image .now) (a .bits) (a .width) ≡ ascii "v2.0 raw\n" ++ (front c ++ others c))
+text c =
+    let a = start c .args in
+    text-parts (a .image .now) (a .bits) (a .width) (whole c) (a .chunks) (start c .pre .0 .4) (most c)
+
+-- there is room for all three
+room : (c : tie.After-per-line) → 9 + (length (front c) + length (others c)) ≤ length (start c .args .out .now)
 room c =
-    let l = c .before in
-    let a = c .before .before .before .before .before .before .before .before .before .args in
-    let one = pieces-room (chunkAt (a .image .now) (a .bits) (a .width)) (l .loop .k) (a .chunks) (c .loop-test .taken) in
-    omega (arith, all (c .before .before .before .before .before .before .before .before .before), l .before .before .before .put-all .ensures .next, l .loop .inv .2 .next)
+    omega (arith, start c .pre .1, ap length (text c), length-append (ascii "v2.0 raw\n") (front c ++ others c), length-append (front c) (others c))
 
--- the chunk that the code writes
-written : (c : tie.After-least Inv-loop μ-loop)
-    → (let a = c .before .before .before .before .before .before .before .before .before .before .args in
-    chunkText (a .image .now) (a .bits) (c .before .before .loop .offset) (c .least .result) ≡ chunkAt (a .image .now) (a .bits) (a .width) (c .before .before .loop .k))
-unfolding partBits
-written c = rw (c .least .ensures, c .before .before .loop .inv .1)
+per-line-requires : tie.Need-per-line-requires
+per-line-requires c κs = search needs
 
-slice-aggregate-put-all : tie.Need-slice-aggregate-put-all Inv-loop μ-loop
+mul-whole : tie.Need-mul-whole
+mul-whole c = omega (arith, mul-le-mul {n₁ = start c .args .bits / 128} {n₂ = 131072} {m₂ = 16} (omega (arith, start c .pre .0 .2)) (c .per-line .ensures .1))
+
+slice-aggregate-put-all : tie.Need-slice-aggregate-put-all
 slice-aggregate-put-all c = search needs
 
-put-all-requires : tie.Need-put-all-requires Inv-loop μ-loop
-put-all-requires c κs = omega (arith, all (c .before .before .before .before))
+put-all-requires : tie.Need-put-all-requires
+put-all-requires c κs = omega (arith, room (c .before .before))
 
-loop-holds : tie.Need-loop-holds Inv-loop μ-loop
-loop-holds c = (search needs, rw zero-mul, rw pieces-none (writes-nothing _ _), refl)
+put-whole-requires : tie.Need-put-whole-requires
+put-whole-requires c κs =
+    let line = c .before .before .before in
+    let told = line .before .before .before in
+    ((omega arith, start told .pre .0 .3), rw (← told .per-line .ensures .0) (omega (arith, room told, line .put-all .ensures .next, writes-length (line .put-all .ensures))))
 
-sub-least : tie.Need-sub-least Inv-loop μ-loop
-sub-least c = omega (arith, starts c)
-
-least-requires : tie.Need-least-requires Inv-loop μ-loop
-least-requires c κs = search needs
-
-put-chunk-requires : tie.Need-put-chunk-requires Inv-loop μ-loop
-put-chunk-requires c κs =
-    let turn = c .before .before in
-    (omega (arith, starts turn), rw (written (c .before)) (omega (arith, room turn)))
-
-add-offset : tie.Need-add-offset Inv-loop μ-loop
-add-offset c = omega (arith, starts (c .before .before .before .before .before))
-
-add-k : tie.Need-add-k Inv-loop μ-loop
-add-k c = search needs
-
-loop-less : tie.Need-loop-less Inv-loop μ-loop
-loop-less c = search needs
-
-loop-again : tie.Need-loop-again Inv-loop μ-loop
-loop-again c =
-    let called = c .before .before in
-    let counted = called .before .before in
-    let l = counted .before .before in
-    let a = l .before .before .before .before .before .before .before .before .args in
-    let put-chunk = rw (written counted) at (called .put-chunk .ensures) in (
-      search needs,
-      omega (arith, suc-mul (l .loop .k) (a .width)),
-      rw pieces-next (writes-then (l .loop .inv .2) put-chunk),
-      search needs,
+put-chunks-requires : tie.Need-put-chunks-requires
+put-chunks-requires c κs =
+    let put = c .before .before .before in
+    let line = put .before .before .before .before in
+    let told = line .before .before .before in
+    let pre = start told .pre .0 in
+    let wrote = rw (← told .per-line .ensures .0) at (put .put-whole .ensures) in (
+      (pre .0, pre .1, pre .2, pre .4, most told),
+      omega (arith, room told, line .put-all .ensures .next, writes-length (line .put-all .ensures), wrote .next, writes-length {t = front told} wrote),
     )
 
-same-length : tie.Need-same-length Inv-loop μ-loop
+same-length : tie.Need-same-length
 same-length c = search needs
 
-returns : tie.Need-returns Inv-loop μ-loop
-unfolding logisimText
+returns : tie.Need-returns
 returns c =
-    let l = c .before in
-    let start = l .before .before .before .before .before .before .before .before in
-    let done : l .loop .k ≡ ceilDiv (start .args .bits) (start .args .width) = omega arith in
-    rw (← done) (writes-then (l .before .before .before .put-all .ensures) (l .loop .inv .2))
+    let rest = c .before .before in
+    let put = rest .before .before .before .before in
+    let line = put .before .before .before .before in
+    let told = line .before .before .before in
+    let wrote = rw (← told .per-line .ensures .0) at (put .put-whole .ensures) in
+    rw (text told) (writes-then (line .put-all .ensures) (writes-then {a = front told} {b = others told} wrote (rest .put-chunks .ensures)))
 
 pub write-logisim-spec : {M : Type 1} → statement M
 write-logisim-spec =
     tie.close
     (tie.spec
-    Inv-loop
-    μ-loop
+    per-line-requires
+    mul-whole
     slice-aggregate-put-all
     put-all-requires
-    loop-holds
-    sub-least
-    least-requires
-    put-chunk-requires
-    add-offset
-    add-k
-    loop-less
-    loop-again
+    put-whole-requires
+    put-chunks-requires
     same-length
     returns)
