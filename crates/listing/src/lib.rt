@@ -6,7 +6,7 @@ ghost use mathlib.Core.Bool.{false};
 ghost use Prim.Native.Nat.{_+_, _≤_, max};
 ghost use lib.ListN.{length};
 ghost use Rattle.output.specs.Writes.{Writes};
-ghost use Rattle.numbers.specs.Digits.{padded};
+ghost use Rattle.numbers.specs.Digits.{digitCount, padded};
 ghost use Rattle.listing.specs.Listing.{badAnnotated, contentNeed, addrTitle, wider, widthsOf, heading};
 use numbers::Letters;
 use ordering::ABSENT;
@@ -41,6 +41,18 @@ pub fn bad_annotated(options: FormatAnnotatedOptions) -> bool
         return true;
     }
     1 < options.display_labels
+}
+
+// How many digits a number has in the base of the addresses. Base 16, the most frequent one, has a loop
+// of its own, which divides by no variable.
+pub fn digit_count(value: u64, radix: u64) -> usize
+    requires { ⌜ 2 ≤ radix ⌝ }
+    ensures { λ r. ⌜ r ≡ digitCount radix value ⌝ }
+{
+    if radix == 16 {
+        return numbers::digit_count(value, 16);
+    }
+    numbers::digit_count(value, radix)
 }
 
 // What the contents of a span of `size` bits ask of the width of their column.
@@ -82,9 +94,9 @@ fn wider(
     ensures { λ r. ⌜ (r ≡ wider options widths offset size addr) × (r .outp ≤ max (widths .outp) 64) × (r .«outp_bit» ≤ max (widths .«outp_bit») 64) × (r .addr ≤ max (widths .addr) 64) × (r .content ≤ max (widths .content) 324) ⌝ }
 {
     let radix = options.addr_base as u64;
-    let byte = numbers::digit_count((offset / 8) as u64, radix);
-    let bit = numbers::digit_count((offset % 8) as u64, radix);
-    let address = numbers::digit_count(addr, radix);
+    let byte = digit_count((offset / 8) as u64, radix);
+    let bit = digit_count((offset % 8) as u64, radix);
+    let address = digit_count(addr, radix);
     let content = content_need(options, size);
     Widths {
         outp: output::larger(widths.outp, byte),

@@ -142,8 +142,8 @@ fn put_any(
     next
 }
 
-// The same: texts of one or two characters have loops of their own, which the compiler makes vector
-// code of.
+// The same: behind many bytes texts of one or two characters have loops of their own, which the
+// compiler makes vector code of.
 fn put_singles(
     out: &mut [u8],
     at: usize,
@@ -158,6 +158,9 @@ fn put_singles(
     requires room { ⌜ at + count * (perByte kind + length (now tail)) ≤ length (now out) ⌝ }
     ensures { λ r. ⌜ Writes (rowsText kind (now (bytes .entry)) len first 1 (now (tail .entry)) count) (now (out .entry)) at (now (out .exit)) r ⌝ }
 {
+    if count < 8 {
+        return put_any(out, at, kind, bytes, len, first, tail, count);
+    }
     if tail.len() == 1 {
         return put_ones(out, at, kind, bytes, len, first, tail[0], count);
     }
