@@ -19,11 +19,11 @@ use Rattle.hex_records.specs.Plan.{chunkAt, blockPlan, hexPlan, tooHigh}
 use Rattle.hex_records.specs.Text.{bytesFrom, total, checksum, recordBytes, hexBytes, recordText, hexText}
 use Rattle.intelhex.specs.Hex.{planOutcome, hexOutcome}
 use Rattle.format_plain.specs.Str.{strText, strOutcome}
-use Rattle.format_readmem.specs.Readmem.{lineText, readmemText, readmemOutcome}
+use Rattle.format_readmem.specs.Readmem.{lineText, lineAt, readmemText, readmemOutcome}
 use Rattle.format_list.specs.List.{groupText, betweenGroups, listText, badList, listOutcome}
 use Rattle.format_logisim.specs.Logisim.{chunkText, logisimText, logisimOutcome}
 use Rattle.table.specs.Table.{Row, rows}
 
 pub table : map (λ (r : Row). r .given) rows ≡ map (λ (r : Row). text (ascii (r .printed))) rows
-unfolding bitAt bitsAt badSize ceilDiv digitChar byteText flatMap numbered first put-in ordered rank inOrder present closed running blocksIn blocksOf longList badSpan faultAt chunkAt blockPlan hexPlan tooHigh bytesFrom total checksum recordBytes hexBytes recordText hexText planOutcome hexOutcome pieces leading joined every outside digitAt run shortDigit hexLine partBits baseBits strText strOutcome lineText readmemText readmemOutcome tooLong groupText betweenGroups listText badList listOutcome chunkText logisimText logisimOutcome
+unfolding bitAt bitsAt badSize ceilDiv digitChar byteText flatMap numbered first put-in ordered rank inOrder present closed running blocksIn blocksOf longList badSpan faultAt chunkAt blockPlan hexPlan tooHigh bytesFrom total checksum recordBytes hexBytes recordText hexText planOutcome hexOutcome pieces leading joined every outside digitAt run shortDigit hexLine partBits baseBits strText strOutcome lineText lineAt readmemText readmemOutcome tooLong groupText betweenGroups listText badList listOutcome chunkText logisimText logisimOutcome
 table = refl
