@@ -2,7 +2,7 @@
 // share. The memory initialization file reads its bytes here too.
 ghost use mathlib.Core.Path.{_≡_};
 ghost use mathlib.Core.List.{List, _++_};
-ghost use Prim.Native.Nat.{ℕ, _+_, _*_, _≤_, _<_, _^_};
+ghost use Prim.Native.Nat.{ℕ, _+_, _*_, _/_, _≤_, _<_, _^_, min};
 ghost use lib.ListN.{length};
 ghost use Rattle.bitvec.specs.Bits.{byteAt};
 ghost use Rattle.bitvec.specs.Size.{ceilDiv};
@@ -32,7 +32,7 @@ pub fn bad_radix(radix: usize) -> bool
 
 // How many of the first `count` bytes are whole: within the bit length, and lent.
 pub fn whole_bytes(image: &[u8], bits: usize, count: usize) -> usize
-    ensures { λ r. ⌜ (r ≤ count) × (r * 8 ≤ bits) × (r ≤ length (now (image .entry))) ⌝ }
+    ensures { λ r. ⌜ (r ≤ count) × (r * 8 ≤ bits) × (r ≤ length (now (image .entry))) × (r ≡ min (min (bits / 8) (length (now (image .entry)))) count) ⌝ }
 {
     output::smaller(output::smaller(bits / 8, image.len()), count)
 }
