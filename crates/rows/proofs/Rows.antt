@@ -6,7 +6,6 @@ use Prim.Native.Nat.{ℕ, _+_, _*_, _/_, _%_, _<_, _≤_}
 use native.Mathlib.Omega.{arith}
 use native.Mathlib.Nat.{suc-mul, mul-one, mul-le-mul-right}
 use lib.ListN.{length, length-append}
-use borrow.Author.Tests.{lt-ltb}
 use Rattle.bitvec.specs.Bits.{byteAt}
 use Rattle.output.specs.Pieces.{pieces}
 use Rattle.output.proofs.Pieces.{pieces-none, pieces-next, pieces-length}
@@ -24,33 +23,6 @@ stride k n w h = rw (← suc-mul k w) (mul-le-mul-right w h)
 pub digits-length : (w m v : ℕ) → length (digitsOf w m v) ≡ m
 unfolding digitsOf
 digits-length w m v = pieces-length _ 1 m (λ k h. refl) ∙ mul-one m
-
--- The eight digits of a byte are four of its quotient by 16 and four of the remainder.
-pub bits-halves : (b : ℕ) → digitsOf 1 8 b ≡ digitsOf 1 4 (b / 16) ++ digitsOf 1 4 (b % 16)
-unfolding digitsOf pieces
-bits-halves b =
-    let a₀ : b / 16 / 8 % 2 ≡ b / 128 % 2 = omega arith in
-    let a₁ : b / 16 / 4 % 2 ≡ b / 64 % 2 = omega arith in
-    let a₂ : b / 16 / 2 % 2 ≡ b / 32 % 2 = omega arith in
-    let a₃ : b / 16 / 1 % 2 ≡ b / 16 % 2 = omega arith in
-    let b₀ : b % 16 / 8 % 2 ≡ b / 8 % 2 = omega arith in
-    let b₁ : b % 16 / 4 % 2 ≡ b / 4 % 2 = omega arith in
-    let b₂ : b % 16 / 2 % 2 ≡ b / 2 % 2 = omega arith in
-    let b₃ : b % 16 / 1 % 2 ≡ b / 1 % 2 = omega arith in
-    rw (a₀, a₁, a₂, a₃, b₀, b₁, b₂, b₃)
-
--- A binary digit is 0 or 1.
-bit-char : (x : ℕ) → digitChar Lower (x % 2) ≡ 48 + x % 2
-unfolding digitChar
-bit-char x = simp (lt-ltb (x % 2) 10 (omega arith))
-
--- The four binary digits of a number below 16.
-pub four-digits : (v : ℕ) → v < 16 → digitsOf 1 4 v ≡ (48 + v / 8) ∷ (48 + v / 4 % 2) ∷ (48 + v / 2 % 2) ∷ (48 + v % 2) ∷ []
-unfolding digitsOf pieces
-four-digits v h =
-    let first : v / 8 % 2 ≡ v / 8 = omega arith in
-    let last : v / 1 % 2 ≡ v % 2 = omega arith in
-    rw (bit-char (v / 8), bit-char (v / 4), bit-char (v / 2), bit-char (v / 1), first, last)
 
 pub byte-length : (kind : ByteDigits) (b : ℕ) → length (byteDigits kind b) ≡ perByte kind
 unfolding byteDigits byteText

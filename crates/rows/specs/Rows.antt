@@ -12,6 +12,10 @@ use Rattle.rows.specs.declared.ByteDigits.the-variants.{Binary, Hex}
 unfoldable pub digitsOf : ℕ → ℕ → ℕ → List ℕ
 digitsOf w m v = pieces (λ k. digitChar Lower (v / 2 ^ ((m - 1 - k) * w) % 2 ^ w) ∷ []) m
 
+-- The eight bytes of a word, the highest first.
+unfoldable pub wordBytes : ℕ → List ℕ
+wordBytes v = pieces (λ k. v / 2 ^ ((7 - k) * 8) % 256 ∷ []) 8
+
 -- How many digits a byte has.
 abbrev pub perByte : ByteDigits → ℕ
 perByte Binary = 8

@@ -6,7 +6,7 @@ ghost use mathlib.Core.List.{[], _∷_};
 ghost use Prim.Native.Nat.{_+_, _*_, _≤_, _<_};
 ghost use lib.ListN.{length};
 ghost use Rattle.output.specs.Writes.{Writes};
-ghost use Rattle.rows.specs.Rows.{digitsOf, perByte, byteDigits, bytesText, rowsText};
+ghost use Rattle.rows.specs.Rows.{digitsOf, wordBytes, perByte, byteDigits, bytesText, rowsText};
 use numbers::Letters;
 
 // How a byte is written: a digit for each bit, or two hexadecimal digits.
@@ -15,15 +15,30 @@ pub enum ByteDigits {
     Hex,
 }
 
-// Stores a number below 16 as four binary digits.
-fn put_four(out: &mut [u8], at: usize, four: u8) -> usize
-    requires { ⌜ (four < 16) × (at + 4 ≤ length (now out)) ⌝ }
-    ensures { λ r. ⌜ Writes (digitsOf 1 4 four) (now (out .entry)) at (now (out .exit)) r ⌝ }
+// The bits of a byte as binary digits, one in each byte of a word, the first digit highest.
+fn digit_word(byte: u8) -> u64
+    ensures { λ r. ⌜ wordBytes r ≡ digitsOf 1 8 byte ⌝ }
 {
-    let mut next = output::put(out, at, b'0' + four / 8);
-    next = output::put(out, next, b'0' + four / 4 % 2);
-    next = output::put(out, next, b'0' + four / 2 % 2);
-    output::put(out, next, b'0' + four % 2)
+    let bits = byte as u64;
+    let fours = (bits | (bits << 28)) & 0xf_0000_000f;
+    let twos = (fours | (fours << 14)) & 0x3_0003_0003_0003;
+    let ones = (twos | (twos << 7)) & 0x101_0101_0101_0101;
+    ones | 0x3030_3030_3030_3030
+}
+
+// Stores the eight bytes of a word, the highest first.
+fn put_word(out: &mut [u8], at: usize, word: u64) -> usize
+    requires { ⌜ at + 8 ≤ length (now out) ⌝ }
+    ensures { λ r. ⌜ Writes (wordBytes word) (now (out .entry)) at (now (out .exit)) r ⌝ }
+{
+    let mut next = output::put(out, at, ((word >> 56) % 256) as u8);
+    next = output::put(out, next, ((word >> 48) % 256) as u8);
+    next = output::put(out, next, ((word >> 40) % 256) as u8);
+    next = output::put(out, next, ((word >> 32) % 256) as u8);
+    next = output::put(out, next, ((word >> 24) % 256) as u8);
+    next = output::put(out, next, ((word >> 16) % 256) as u8);
+    next = output::put(out, next, ((word >> 8) % 256) as u8);
+    output::put(out, next, (word % 256) as u8)
 }
 
 // Stores a byte as eight binary digits.
@@ -31,8 +46,7 @@ pub fn put_bits(out: &mut [u8], at: usize, byte: u8) -> usize
     requires { ⌜ at + 8 ≤ length (now out) ⌝ }
     ensures { λ r. ⌜ Writes (digitsOf 1 8 byte) (now (out .entry)) at (now (out .exit)) r ⌝ }
 {
-    let next = put_four(out, at, byte / 16);
-    put_four(out, next, byte % 16)
+    put_word(out, at, digit_word(byte))
 }
 
 // Stores a byte in digits.
