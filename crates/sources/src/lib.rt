@@ -1,7 +1,7 @@
 // The two source texts that a listing shows parts of: the firmware's, which is file 0, and the
 // protocol's, which is file 1.
 ghost use mathlib.Core.Path.{_≡_};
-ghost use Prim.Native.Nat.{_≤_};
+ghost use Prim.Native.Nat.{_≤_, max};
 ghost use lib.ListN.{length};
 ghost use Rattle.sources.specs.Sources.{source, excerptOf, badText};
 
@@ -32,17 +32,24 @@ pub fn source_length(firmware: &[u8], protocol: &[u8], file: u8) -> usize
     protocol.len()
 }
 
-// Whether a text is too long or not ASCII, the cause of refusal 6.
+// The higher of two bytes.
+fn higher(a: u8, b: u8) -> u8
+    ensures { λ r. ⌜ r ≡ max a b ⌝ }
+{
+    if a < b { b } else { a }
+}
+
+// Whether a text is too long or not ASCII, the cause of refusal 6. All bytes are looked at, without a
+// way out of the loop, so that many are looked at at once.
 pub fn bad_text(text: &[u8]) -> bool
     ensures { λ r. ⌜ r ≡ badText (now (text .entry)) ⌝ }
 {
     if 1048576 < text.len() {
         return true;
     }
+    let mut highest: u8 = 0;
     for k in 0..text.len() {
-        if 127 < text[k] {
-            return true;
-        }
+        highest = higher(highest, text[k]);
     }
-    false
+    127 < highest
 }

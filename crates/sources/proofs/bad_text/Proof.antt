@@ -1,42 +1,37 @@
--- `sources::bad_text` meets its contract: no byte before place k is 128 or more.
+-- `sources::bad_text` meets its contract: the highest of the first k bytes is 128 or more where one of them is.
 -- Assumes nothing.
-use mathlib.Core.Path.{_≡_}
-use mathlib.Core.Bool.{false}
-use Prim.Native.Nat.{ℕ, _-_, _≤_, _<_}
+use mathlib.Core.Path.{_≡_, refl, sym, _∙_}
+use Prim.Native.Nat.{_-_, _≤_}
 use native.Mathlib.Omega.{arith}
 use lib.Dec.{ltb}
 use lib.ListN.{length, getD}
-use borrow.Author.Count.{below-none, below-more}
 use borrow.Author.Tests.{lt-ltb, le-ltb}
-use Rattle.ordering.proofs.Lists.{first-at, first-all}
+use Rattle.ordering.specs.Lists.{first}
 use Rattle.sources.specs.Sources.{notAscii, badText}
+use Rattle.sources.proofs.Files.{ascii-next}
 use borrow.Author.Needs.{needs}
 use Rattle.sources.proofs.bad_text.Statement.{statement}
 use Rattle.sources.proofs.bad_text.Tie as tie
 
 abbrev Inv-loop : tie.InvT-loop
-Inv-loop text k₀ k-end k = (k ≤ length text) × ((j : ℕ) → j < k → ltb 127 (getD text j 0) ≡ false)
+Inv-loop text highest₀ k₀ k-end highest k = (k ≤ length text) × (ltb (first (λ j. ltb 127 (getD text j 0)) k) k ≡ ltb 127 highest)
 
 abbrev μ-loop : tie.MeasureT-loop
-μ-loop text k₀ k-end k = length text - k
+μ-loop text highest₀ k₀ k-end highest k = length text - k
 
 returns : tie.Need-returns Inv-loop μ-loop
 unfolding badText
 returns c = simp (lt-ltb _ _ (c .if1 .taken))
 
 loop-holds : tie.Need-loop-holds Inv-loop μ-loop
-loop-holds c = (search needs, below-none _)
+unfolding first
+loop-holds c = (search needs, refl)
 
-shared-slice-read-if2 : tie.Need-shared-slice-read-if2 Inv-loop μ-loop
-shared-slice-read-if2 c = search needs
+shared-slice-read-higher : tie.Need-shared-slice-read-higher Inv-loop μ-loop
+shared-slice-read-higher c = search needs
 
-returns-2 : tie.Need-returns-2 Inv-loop μ-loop
-unfolding badText notAscii
-returns-2 c =
-    let l = c .before .before .before .loop in
-    let t = c .before .before .before .before .before .args .text .now in
-    let at = first-at (λ k. ltb 127 (getD t k 0)) (length t) (l .k) (omega arith) (l .inv .1) (lt-ltb _ _ (c .if2 .taken)) in
-    simp (le-ltb _ _ (c .before .before .before .before .if1 .left), at, lt-ltb (l .k) (length t) (omega arith))
+higher-requires : tie.Need-higher-requires Inv-loop μ-loop
+higher-requires c κs = search needs
 
 add-k : tie.Need-add-k Inv-loop μ-loop
 add-k c = search needs
@@ -45,16 +40,18 @@ loop-less : tie.Need-loop-less Inv-loop μ-loop
 loop-less c = search needs
 
 loop-again : tie.Need-loop-again Inv-loop μ-loop
-loop-again c = (search needs, below-more _ (c .before .before .before .loop .k) (c .before .before .before .loop .inv .1) (le-ltb _ _ (c .if2 .left)))
+loop-again c =
+    let l = c .before .before .before .loop in
+    let t = c .before .before .before .before .before .before .args .text .now in
+    (search needs, ascii-next t (l .k) (l .highest) (l .inv .1) ∙ rw (c .higher .ensures))
 
-returns-3 : tie.Need-returns-3 Inv-loop μ-loop
+returns-2 : tie.Need-returns-2 Inv-loop μ-loop
 unfolding badText notAscii
-returns-3 c =
+returns-2 c =
     let l = c .before .loop in
-    let t = c .before .before .before .args .text .now in
+    let t = c .before .before .before .before .args .text .now in
     let done : l .k ≡ length t = omega arith in
-    let none = first-all (λ k. ltb 127 (getD t k 0)) (length t) (rw (← done) (l .inv .1)) in
-    simp (le-ltb _ _ (c .before .before .if1 .left), none, le-ltb (length t) (length t) (omega arith))
+    simp (le-ltb _ _ (c .before .before .if1 .left)) (sym (rw done at (l .inv .1)))
 
 pub bad-text-spec : {M : Type 1} → statement M
 bad-text-spec =
@@ -64,9 +61,9 @@ bad-text-spec =
     μ-loop
     returns
     loop-holds
-    shared-slice-read-if2
-    returns-2
+    shared-slice-read-higher
+    higher-requires
     add-k
     loop-less
     loop-again
-    returns-3)
+    returns-2)
