@@ -1,32 +1,21 @@
--- Laws of the parts of a line: their lengths, and the contents as digits with spaces between groups.
+-- Laws of the parts of a line: their lengths.
 -- Assumes nothing.
-use mathlib.Core.Path.{_≡_, refl, _∙_}
-use mathlib.Core.List.{List, [], _∷_, _++_}
+use mathlib.Core.Path.{_≡_, _∙_}
+use mathlib.Core.List.{List, _++_}
 use mathlib.Core.Logic.{_≢_}
-use Prim.Native.Nat.{ℕ, _+_, _-_, _*_, _/_, _%_, _≤_, max}
+use Prim.Native.Nat.{ℕ, _+_, _-_, _/_, _%_, max}
 use Prim.Native.Char.{code}
 use native.Mathlib.Omega.{arith}
 use lib.ListN.{length, replicate, length-append, length-replicate}
 use borrow.Author.Tests.{eq-eqb, ne-eqb}
 use Rattle.output.specs.Ascii.{ascii}
-use Rattle.output.specs.Pieces.{every}
-use Rattle.output.proofs.Joined.{joined-length, every-length, between-length}
-use Rattle.output.proofs.Pieces.{pieces-length}
 use Rattle.numbers.specs.declared.Letters.the-variants.{Lower}
 use Rattle.numbers.specs.Digits.{digitCount, numberText}
 use Rattle.numbers.proofs.Digits.{number-length, padded-length}
-use Rattle.digits.specs.Base.{baseBits}
 use Rattle.ordering.specs.Order.{absent}
 use Rattle.listing.specs.declared.FormatAnnotatedOptions.{FormatAnnotatedOptions}
 use Rattle.listing.specs.declared.Widths.{Widths}
-use Rattle.listing.specs.Listing.{contentDigits, contentDigit, contents, atRight, atLeft, place, position, lineText}
-
--- What stands before digit k of the contents, and the digit.
-abbrev pub gap : ℕ → ℕ → List ℕ
-gap group k = every group k (ascii " ")
-
-abbrev pub digit : List ℕ → ℕ → ℕ → ℕ → ℕ → List ℕ
-digit bytes len w offset k = contentDigit bytes len w (offset + k * w) ∷ []
+use Rattle.listing.specs.Listing.{contents, atRight, atLeft, place, position, lineText}
 
 -- The number of a position, and the dashes in its place.
 pub place-absent : (o : FormatAnnotatedOptions) (width offset n : ℕ) (t : List ℕ) → offset ≡ absent → place o width offset n t ≡ atRight width t
@@ -49,20 +38,6 @@ position-parts o w offset =
 pub at-left-length : (width : ℕ) (t : List ℕ) → length (atLeft width t) ≡ max width (length t)
 at-left-length width t =
     length-append t (replicate (width - length t) (code " ")) ∙ omega (arith, length-replicate {A = ℕ} (width - length t) (code " "))
-
--- The contents: a character for each digit, and a space between groups.
-pub contents-length : (o : FormatAnnotatedOptions) (bytes : List ℕ) (len offset size : ℕ) → 1 ≤ o .«digits_per_group»
-    → (let n = contentDigits o size in
-    length (contents o bytes len offset size) ≡ ((n - 1) / o .«digits_per_group» * 1 + ((n - 1) - (n - 1) / o .«digits_per_group») * 0) + n)
-unfolding contents
-contents-length o bytes len offset size h =
-    let n = contentDigits o size in
-    let g = o .«digits_per_group» in
-    let w = baseBits (o .base) in
-    let all = joined-length (gap g) (digit bytes len w offset) n in
-    let gaps = between-length (gap g) g 1 0 n h (λ k l. every-length g k (ascii " ")) in
-    let digits = pieces-length (digit bytes len w offset) 1 n (λ k l. refl) in
-    omega (arith, all, gaps, digits)
 
 -- A line.
 pub line-parts : (o : FormatAnnotatedOptions) (w : Widths) (bytes : List ℕ) (len offset size address : ℕ) (excerpt : List ℕ)
