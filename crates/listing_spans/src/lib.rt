@@ -8,7 +8,8 @@ ghost use lib.ListN.{length};
 ghost use Rattle.output.specs.Writes.{Writes};
 ghost use Rattle.ordering.specs.Lists.{Each};
 ghost use Rattle.sources.specs.Sources.{excerptOf};
-ghost use Rattle.listing.specs.Listing.{badAnnotated, spansOf, shown, spanLine, lineAt};
+ghost use Rattle.listing.specs.Listing.{badAnnotated, widthsOf, spansOf, shown, spanLine, lineAt};
+ghost use Rattle.listing_lines.specs.Fits.{SpanFits};
 ghost use Rattle.listing_spans.specs.Faults.{misplaced, faulty, spanFault};
 use listing::FormatAnnotatedOptions;
 use listing::Widths;
@@ -112,7 +113,7 @@ fn span_length<'a>(
     start: u64,
     end: u64,
 ) -> usize
-    requires narrow { ⌜ (badAnnotated options ≡ false) × (widths .outp + widths .«outp_bit» + widths .addr + widths .content ≤ 516) ⌝ }
+    requires narrow { ⌜ (badAnnotated options ≡ false) × (widths .outp + widths .«outp_bit» + widths .addr + widths .content ≤ 516) × SpanFits options widths offset addr ⌝ }
     requires sound { ⌜ (length (now firmware) ≤ 1048576) × (length (now protocol) ≤ 1048576) × (faulty options (now firmware) (now protocol) offset size file start end ≡ false) ⌝ }
     ensures { λ r. ⌜ ((bytes : List ℕ) (len : ℕ) → length (spanLine options widths bytes len offset size addr (excerptOf (now (firmware .entry)) (now (protocol .entry)) file start end)) ≡ r) × (r < 2 ^ 35) ⌝ }
 {
@@ -140,7 +141,7 @@ fn put_span<'a>(
     start: u64,
     end: u64,
 ) -> usize
-    requires sound { ⌜ (badAnnotated options ≡ false) × (faulty options (now firmware) (now protocol) offset size file start end ≡ false) ⌝ }
+    requires sound { ⌜ (badAnnotated options ≡ false) × SpanFits options widths offset addr × (faulty options (now firmware) (now protocol) offset size file start end ≡ false) ⌝ }
     requires room { ⌜ at + length (spanLine options widths (now image) bits offset size addr (excerptOf (now firmware) (now protocol) file start end)) ≤ length (now out) ⌝ }
     ensures { λ r. ⌜ Writes (spanLine options widths (now (image .entry)) bits offset size addr (excerptOf (now (firmware .entry)) (now (protocol .entry)) file start end)) (now (out .entry)) at (now (out .exit)) r ⌝ }
 {
@@ -176,7 +177,7 @@ pub fn lines_length<'a>(
     firmware: &'a [u8],
     protocol: &'a [u8],
 ) -> usize
-    requires narrow { ⌜ (badAnnotated options ≡ false) × (widths .outp + widths .«outp_bit» + widths .addr + widths .content ≤ 516) ⌝ }
+    requires narrow { ⌜ (badAnnotated options ≡ false) × (widths .outp + widths .«outp_bit» + widths .addr + widths .content ≤ 516) × (widths ≡ widthsOf options (now offsets) (now sizes) (now addrs) (length (now offsets))) ⌝ }
     requires lengths { ⌜ (length (now sizes) ≡ length (now offsets)) × (length (now addrs) ≡ length (now offsets)) × (length (now files) ≡ length (now offsets)) × (length (now starts) ≡ length (now offsets)) × (length (now ends) ≡ length (now offsets)) ⌝ }
     requires sound { ⌜ (length (now firmware) ≤ 1048576) × (length (now protocol) ≤ 1048576) × (spanFault options (spansOf (now offsets) (now sizes) (now addrs) (now files) (now starts) (now ends)) (now firmware) (now protocol) ≡ length (now offsets)) ⌝ }
     requires places { ⌜ (length (now places) ≤ 4096) × Each (λ p. p < length (now offsets)) (now places) ⌝ }
@@ -219,7 +220,7 @@ pub fn put_lines<'a>(
     firmware: &'a [u8],
     protocol: &'a [u8],
 ) -> usize
-    requires options { ⌜ badAnnotated options ≡ false ⌝ }
+    requires options { ⌜ (badAnnotated options ≡ false) × (widths ≡ widthsOf options (now offsets) (now sizes) (now addrs) (length (now offsets))) ⌝ }
     requires lengths { ⌜ (length (now sizes) ≡ length (now offsets)) × (length (now addrs) ≡ length (now offsets)) × (length (now files) ≡ length (now offsets)) × (length (now starts) ≡ length (now offsets)) × (length (now ends) ≡ length (now offsets)) ⌝ }
     requires sound { ⌜ spanFault options (spansOf (now offsets) (now sizes) (now addrs) (now files) (now starts) (now ends)) (now firmware) (now protocol) ≡ length (now offsets) ⌝ }
     requires places { ⌜ Each (λ p. p < length (now offsets)) (now places) ⌝ }

@@ -48,7 +48,7 @@ column-widths-requires : tie.Need-column-widths-requires
 column-widths-requires c κs = (c .before .before .before .before .before .before .before .before .before .before .before .pre .0, c .before .before .before .before .before .before .before .before .before .before .before .pre .1 .0 .0, c .before .before .before .before .before .before .before .before .before .before .before .pre .1 .0 .1)
 
 lines-length-requires : tie.Need-lines-length-requires
-lines-length-requires c κs = ((c .before .before .before .before .before .before .before .before .before .before .before .before .pre .0, c .column-widths .ensures .1), (c .before .before .before .before .before .before .before .before .before .before .before .before .pre .1 .0, (c .before .before .before .before .before .before .before .before .before .before .before .before .pre .1 .1 .0, (few (c .before .before .before .before .before .before .before .before .before .before .before .before), below (c .before .before .before .before .before .before .before .before .before .before .before .before)))))
+lines-length-requires c κs = ((c .before .before .before .before .before .before .before .before .before .before .before .before .pre .0, c .column-widths .ensures .1, c .column-widths .ensures .0), (c .before .before .before .before .before .before .before .before .before .before .before .before .pre .1 .0, (c .before .before .before .before .before .before .before .before .before .before .before .before .pre .1 .1 .0, (few (c .before .before .before .before .before .before .before .before .before .before .before .before), below (c .before .before .before .before .before .before .before .before .before .before .before .before)))))
 
 heading-length-requires : tie.Need-heading-length-requires
 heading-length-requires c κs = (c .before .before .before .before .before .before .before .before .before .before .before .before .before .pre .0, c .before .column-widths .ensures .1)
@@ -69,7 +69,7 @@ put-lines-requires : tie.Need-put-lines-requires
 put-lines-requires c κs =
     let s = c .before .before .before .before .before .before .before .before .before .before .before .before .before .before .before .before .before .before .before .before in
     let w = c .before .before .before .before .before .before .before .before .column-widths .result in
-    (s .pre .0, (s .pre .1 .0, (s .pre .1 .1 .0 .2, (below s, omega (arith, c .before .before .before .before .before .if1 .left, measured (c .before .before .before .before .before .before), ap length (made (c .before .before .before .before .before .before .before .before)), length-append (heading (s .args .options) w) (lines s w), c .before .before .before .put-heading .ensures .next)))))
+    ((s .pre .0, c .before .before .before .before .before .before .before .before .column-widths .ensures .0), (s .pre .1 .0, (s .pre .1 .1 .0 .2, (below s, omega (arith, c .before .before .before .before .before .if1 .left, measured (c .before .before .before .before .before .before), ap length (made (c .before .before .before .before .before .before .before .before)), length-append (heading (s .args .options) w) (lines s w), c .before .before .before .put-heading .ensures .next)))))
 
 same-length : tie.Need-same-length
 same-length c = search needs

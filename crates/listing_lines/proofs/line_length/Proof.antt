@@ -10,27 +10,24 @@ use Rattle.listing_lines.proofs.line_length.Statement.{statement}
 use Rattle.listing_lines.proofs.line_length.Tie as tie
 
 -- each part is short
-short : (c : tie.After-larger2) → c .before .before .before .before .position-length .result + c .before .before .larger .result + c .larger2 .result < 2 ^ 34 + 10000
+short : (c : tie.After-larger) → c .before .before .before .position-length .result + c .before .before .address-length .result + c .larger .result < 2 ^ 34 + 10000
 short c =
-    let s = c .before .before .before .before .before in
+    let s = c .before .before .before .before in
     let radix = good (s .args .options) (s .pre .0) .radix-least in
     let digits = count-small (s .args .options .«addr_base») radix 63 (s .args .addr) (omega arith) in
-    omega (arith, c .before .before .before .before .position-length .ensures .1, c .before .before .larger .ensures, c .before .before .before .digit-count .ensures, c .larger2 .ensures, c .before .contents-length .ensures .1, s .pre .1)
+    omega (arith, c .before .before .before .position-length .ensures .1, c .before .before .address-length .ensures, c .larger .ensures, c .before .contents-length .ensures .1, s .pre .1)
 
 position-length-requires : tie.Need-position-length-requires
-position-length-requires c κs = (c .pre .0, c .pre .1)
+position-length-requires c κs = (c .pre .3 .byte-fits, c .pre .3 .bit-fits, c .pre .1)
 
-digit-count-requires : tie.Need-digit-count-requires
-digit-count-requires c κs = good (c .before .args .options) (c .before .pre .0) .radix-least
+address-length-requires : tie.Need-address-length-requires
+address-length-requires c κs = (c .before .pre .0, c .before .pre .3 .address-fits)
+
+contents-length-requires : tie.Need-contents-length-requires
+contents-length-requires c κs = c .before .before .pre .0
 
 larger-requires : tie.Need-larger-requires
 larger-requires c κs = search needs
-
-contents-length-requires : tie.Need-contents-length-requires
-contents-length-requires c κs = c .before .before .before .pre .0
-
-larger-requires-2 : tie.Need-larger-requires-2
-larger-requires-2 c κs = search needs
 
 add-result : tie.Need-add-result
 add-result c = record { fits = omega (arith, short c) }
@@ -39,17 +36,17 @@ add-result-2 : tie.Need-add-result-2
 add-result-2 c = record { fits = omega (arith, short c) }
 
 add-result-3 : tie.Need-add-result-3
-add-result-3 c = record { fits = omega (arith, short c, c .before .before .before .before .before .pre .2) }
+add-result-3 c = record { fits = omega (arith, short c, c .before .before .before .before .pre .2) }
 
 add-result-4 : tie.Need-add-result-4
-add-result-4 c = record { fits = omega (arith, short c, c .before .before .before .before .before .pre .2) }
+add-result-4 c = record { fits = omega (arith, short c, c .before .before .before .before .pre .2) }
 
 returns : tie.Need-returns
 returns c =
-    let s = c .before .before .before .before .before in
+    let s = c .before .before .before .before in
     let a = s .args in (
       λ bytes len t e.
-          omega (arith, e, line-parts (a .options) (a .widths) bytes len (a .offset) (a .size) (a .addr) t, c .before .before .before .before .position-length .ensures .0, c .before .before .larger .ensures, c .before .before .before .digit-count .ensures, c .larger2 .ensures, c .before .contents-length .ensures .0 bytes len (a .offset)),
+          omega (arith, e, line-parts (a .options) (a .widths) bytes len (a .offset) (a .size) (a .addr) t, c .before .before .before .position-length .ensures .0, c .before .before .address-length .ensures, c .larger .ensures, c .before .contents-length .ensures .0 bytes len (a .offset)),
       omega (arith, short c, s .pre .2),
     )
 
@@ -58,10 +55,9 @@ line-length-spec =
     tie.close
     (tie.spec
     position-length-requires
-    digit-count-requires
-    larger-requires
+    address-length-requires
     contents-length-requires
-    larger-requires-2
+    larger-requires
     add-result
     add-result-2
     add-result-3

@@ -5,8 +5,7 @@ use native.Mathlib.Omega.{arith}
 use lib.ListN.{length}
 use Rattle.numbers.specs.declared.Letters.the-variants.{Lower}
 use Rattle.numbers.specs.Digits.{numberText}
-use Rattle.numbers.proofs.Digits.{count-small, number-length, padded-length}
-use Rattle.listing.proofs.Columns.{good}
+use Rattle.numbers.proofs.Digits.{number-length, padded-length}
 use Rattle.listing_lines.proofs.Lines.{place-absent, place-present}
 use borrow.Author.Needs.{needs}
 use Rattle.listing_lines.proofs.place_length.Statement.{statement}
@@ -21,22 +20,15 @@ returns c = (
   omega (arith, c .larger .ensures, c .before .before .pre .1, c .before .before .pre .2),
 )
 
-digit-count-requires : tie.Need-digit-count-requires
-digit-count-requires c κs = good (c .before .args .options) (c .before .pre .0) .radix-least
-
-larger-requires-2 : tie.Need-larger-requires-2
-larger-requires-2 c κs = search needs
-
 returns-2 : tie.Need-returns-2
 returns-2 c =
-    let s = c .before .before .before in
+    let s = c .before in
     let a = s .args in
-    let radix = good (a .options) (s .pre .0) .radix-least in
-    let number = numberText Lower (a .options .«addr_base») (a .number) in (
-      λ t e. omega (arith, c .larger2 .ensures, c .before .digit-count .ensures, ap length (place-present (a .options) (a .width) (a .offset) (a .number) t (c .before .before .if1 .left)), padded-length 32 (a .width) number, number-length Lower (a .options .«addr_base») (a .number)),
-      omega (arith, c .larger2 .ensures, c .before .digit-count .ensures, s .pre .1, count-small (a .options .«addr_base») radix 63 (a .number) (omega arith)),
+    let number = numberText Lower (a .options .«addr_base») (a .number) in
+    let fits = s .pre .0 (c .if1 .left) in (
+      λ t e. omega (arith, fits, ap length (place-present (a .options) (a .width) (a .offset) (a .number) t (c .if1 .left)), padded-length 32 (a .width) number, number-length Lower (a .options .«addr_base») (a .number)),
+      s .pre .1,
     )
 
 pub place-length-spec : {M : Type 1} → statement M
-place-length-spec =
-    tie.close (tie.spec larger-requires returns digit-count-requires larger-requires-2 returns-2)
+place-length-spec = tie.close (tie.spec larger-requires returns returns-2)

@@ -8,10 +8,10 @@ use Rattle.listing_lines.proofs.position_length.Statement.{statement}
 use Rattle.listing_lines.proofs.position_length.Tie as tie
 
 place-length-requires : tie.Need-place-length-requires
-place-length-requires c κs = (c .pre .0, omega (arith, c .pre .1), omega arith)
+place-length-requires c κs = (c .pre .0, omega (arith, c .pre .2), omega arith)
 
 place-length-requires-2 : tie.Need-place-length-requires-2
-place-length-requires-2 c κs = (c .before .pre .0, omega (arith, c .before .pre .1), omega arith)
+place-length-requires-2 c κs = (c .before .pre .1, omega (arith, c .before .pre .2), omega arith)
 
 add-result : tie.Need-add-result
 add-result c = record { fits = omega (arith, c .before .place-length .ensures .1) }

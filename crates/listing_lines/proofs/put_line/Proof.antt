@@ -11,7 +11,6 @@ use Rattle.output.specs.Writes.{Writes}
 use Rattle.numbers.proofs.Digits.{number-length, padded-length}
 use Rattle.output.proofs.Writes.{writes-then, writes-length}
 use Rattle.listing.specs.Listing.{contents, position, atLeft, lineText}
-use Rattle.listing.proofs.Columns.{good}
 use Rattle.listing_lines.proofs.Lines.{at-left-length, line-parts}
 use borrow.Author.Needs.{needs}
 use Rattle.listing_lines.proofs.put_line.Statement.{statement}
@@ -34,14 +33,14 @@ room : (s : tie.Start) → place s + address s + length (column s) + length (s .
 room s =
     let a = s .args in
     let wide = at-left-length (a .widths .content) (contents (a .options) (a .image .now) (a .bits) (a .offset) (a .size)) in
-    omega (arith, s .pre .1, wide, line-parts (a .options) (a .widths) (a .image .now) (a .bits) (a .offset) (a .size) (a .addr) (a .excerpt .now))
+    omega (arith, s .pre .2, wide, line-parts (a .options) (a .widths) (a .image .now) (a .bits) (a .offset) (a .size) (a .addr) (a .excerpt .now))
 
 -- the place behind each column
-behind-address : (c : tie.After-put-padded) → c .put-padded .result ≡ place (c .before .before .before .before .before .before .before .before .before .before .before .before .before .before) + 3 + address (c .before .before .before .before .before .before .before .before .before .before .before .before .before .before)
+behind-address : (c : tie.After-put-address) → c .put-address .result ≡ place (c .before .before .before .before .before .before .before .before .before .before .before .before .before .before) + 3 + address (c .before .before .before .before .before .before .before .before .before .before .before .before .before .before)
 behind-address c =
     let a = c .before .before .before .before .before .before .before .before .before .before .before .before .before .before .args in
     let number = padded-length 32 (a .widths .addr) (numberText Lower (a .options .«addr_base») (a .addr)) in
-    omega (arith, c .before .before .before .before .before .before .before .before .before .put-position .ensures .next, c .before .before .before .before .put-all .ensures .next, c .put-padded .ensures .next, number, number-length Lower (a .options .«addr_base») (a .addr))
+    omega (arith, c .before .before .before .before .before .before .before .before .before .put-position .ensures .next, c .before .before .before .before .put-all .ensures .next, c .put-address .ensures .next, number, number-length Lower (a .options .«addr_base») (a .addr))
 
 behind-column : (c : tie.After-put-column) → c .put-column .result ≡ place (c .before .before .before .before .before .before .before .before .before .before .before .before .before .before .before .before .before .before .before .before .before .before .before) + 6 + address (c .before .before .before .before .before .before .before .before .before .before .before .before .before .before .before .before .before .before .before .before .before .before .before) + length (column (c .before .before .before .before .before .before .before .before .before .before .before .before .before .before .before .before .before .before .before .before .before .before .before))
 behind-column c = omega (arith, behind-address (c .before .before .before .before .before .before .before .before .before), c .before .before .before .before .put-all2 .ensures .next, c .put-column .ensures .next)
@@ -56,7 +55,7 @@ unfolding lineText
 written c =
     writes-then (c .before .before .before .before .before .before .before .before .before .before .before .before .before .before .before .before .before .before .before .before .before .before .before .before .before .before .before .before .before .before .before .put-position .ensures)
     (writes-then (c .before .before .before .before .before .before .before .before .before .before .before .before .before .before .before .before .before .before .before .before .before .before .before .before .before .before .put-all .ensures)
-    (writes-then (c .before .before .before .before .before .before .before .before .before .before .before .before .before .before .before .before .before .before .before .before .before .before .put-padded .ensures)
+    (writes-then (c .before .before .before .before .before .before .before .before .before .before .before .before .before .before .before .before .before .before .before .before .before .before .put-address .ensures)
     (writes-then (c .before .before .before .before .before .before .before .before .before .before .before .before .before .before .before .before .before .put-all2 .ensures)
     (writes-then (c .before .before .before .before .before .before .before .before .before .before .before .before .before .put-column .ensures)
     (writes-then (c .before .before .before .before .before .before .before .before .put-all3 .ensures)
@@ -64,7 +63,7 @@ written c =
     (c .put .ensures)))))))
 
 put-position-requires : tie.Need-put-position-requires
-put-position-requires c κs = (c .before .before .before .before .pre .0, omega (arith, room (c .before .before .before .before)))
+put-position-requires c κs = (c .before .before .before .before .pre .0, c .before .before .before .before .pre .1 .byte-fits, c .before .before .before .before .pre .1 .bit-fits, omega (arith, room (c .before .before .before .before)))
 
 slice-aggregate-put-all : tie.Need-slice-aggregate-put-all
 slice-aggregate-put-all c = search needs
@@ -72,10 +71,10 @@ slice-aggregate-put-all c = search needs
 put-all-requires : tie.Need-put-all-requires
 put-all-requires c κs = omega (arith, room (c .before .before .before .before .before .before .before .before .before), c .before .before .before .before .put-position .ensures .next)
 
-put-padded-requires : tie.Need-put-padded-requires
-put-padded-requires c κs =
-    let radix = good (c .before .before .before .before .before .before .before .before .before .before .before .before .before .args .options) (c .before .before .before .before .before .before .before .before .before .before .before .before .before .pre .0) in
-    (radix .radix-least, radix .radix-most, omega (arith, room (c .before .before .before .before .before .before .before .before .before .before .before .before .before), c .before .before .before .before .before .before .before .before .put-position .ensures .next, c .before .before .before .put-all .ensures .next))
+put-address-requires : tie.Need-put-address-requires
+put-address-requires c κs =
+    let s = c .before .before .before .before .before .before .before .before .before .before .before .before .before in
+    (s .pre .0, s .pre .1 .address-fits, omega (arith, room s, c .before .before .before .before .before .before .before .before .put-position .ensures .next, c .before .before .before .put-all .ensures .next))
 
 slice-aggregate-put-all-2 : tie.Need-slice-aggregate-put-all-2
 slice-aggregate-put-all-2 c = search needs
@@ -96,7 +95,7 @@ put-all-requires-4 : tie.Need-put-all-requires-4
 put-all-requires-4 c κs = omega (arith, room (c .before .before .before .before .before .before .before .before .before .before .before .before .before .before .before .before .before .before .before .before .before .before .before .before .before .before .before .before .before .before .before), behind-column (c .before .before .before .before .before .before .before .before), c .before .before .before .put-all3 .ensures .next)
 
 put-requires : tie.Need-put-requires
-put-requires c κs = omega (arith, room (c .before .before .before .before .before .before .before .before .before .before .before .before .before .before .before .before .before .before .before .before .before .before .before .before .before .before .before .before .before .before .before .before .before .before .before), behind-excerpt (c .before .before .before), writes-length (c .before .before .before .put-all4 .ensures), writes-length (c .before .before .before .before .before .before .before .put-all3 .ensures), writes-length (c .before .before .before .before .before .before .before .before .before .before .before .before .put-column .ensures), writes-length (c .before .before .before .before .before .before .before .before .before .before .before .before .before .before .before .before .put-all2 .ensures), writes-length (c .before .before .before .before .before .before .before .before .before .before .before .before .before .before .before .before .before .before .before .before .before .put-padded .ensures), writes-length (c .before .before .before .before .before .before .before .before .before .before .before .before .before .before .before .before .before .before .before .before .before .before .before .before .before .put-all .ensures), writes-length (c .before .before .before .before .before .before .before .before .before .before .before .before .before .before .before .before .before .before .before .before .before .before .before .before .before .before .before .before .before .before .put-position .ensures))
+put-requires c κs = omega (arith, room (c .before .before .before .before .before .before .before .before .before .before .before .before .before .before .before .before .before .before .before .before .before .before .before .before .before .before .before .before .before .before .before .before .before .before .before), behind-excerpt (c .before .before .before), writes-length (c .before .before .before .put-all4 .ensures), writes-length (c .before .before .before .before .before .before .before .put-all3 .ensures), writes-length (c .before .before .before .before .before .before .before .before .before .before .before .before .put-column .ensures), writes-length (c .before .before .before .before .before .before .before .before .before .before .before .before .before .before .before .before .put-all2 .ensures), writes-length (c .before .before .before .before .before .before .before .before .before .before .before .before .before .before .before .before .before .before .before .before .before .put-address .ensures), writes-length (c .before .before .before .before .before .before .before .before .before .before .before .before .before .before .before .before .before .before .before .before .before .before .before .before .before .put-all .ensures), writes-length (c .before .before .before .before .before .before .before .before .before .before .before .before .before .before .before .before .before .before .before .before .before .before .before .before .before .before .before .before .before .before .put-position .ensures))
 
 same-length : tie.Need-same-length
 same-length c = writes-length (written (c .before .before))
@@ -111,7 +110,7 @@ put-line-spec =
     put-position-requires
     slice-aggregate-put-all
     put-all-requires
-    put-padded-requires
+    put-address-requires
     slice-aggregate-put-all-2
     put-all-requires-2
     put-column-requires

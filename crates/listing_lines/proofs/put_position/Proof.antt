@@ -15,7 +15,7 @@ use Rattle.listing_lines.proofs.put_position.Tie as tie
 room : (s : tie.Start)
     → (let a = s .args in
     a .at + 2 + length (place (a .options) (a .widths .outp) (a .offset) (a .offset / 8) (ascii "--")) + length (place (a .options) (a .widths .«outp_bit») (a .offset) (a .offset % 8) (ascii "-")) ≤ length (a .out .now))
-room s = omega (arith, s .pre .1, position-parts (s .args .options) (s .args .widths) (s .args .offset))
+room s = omega (arith, s .pre .3, position-parts (s .args .options) (s .args .widths) (s .args .offset))
 
 put-requires : tie.Need-put-requires
 put-requires c κs = omega (arith, room (c .before .before))
@@ -24,7 +24,7 @@ slice-aggregate-put-place : tie.Need-slice-aggregate-put-place
 slice-aggregate-put-place c = search needs
 
 put-place-requires : tie.Need-put-place-requires
-put-place-requires c κs = (c .before .before .before .before .before .before .before .pre .0, omega (arith, room (c .before .before .before .before .before .before .before), c .before .before .before .before .put .ensures .next))
+put-place-requires c κs = (c .before .before .before .before .before .before .before .pre .0, c .before .before .before .before .before .before .before .pre .1, omega (arith, room (c .before .before .before .before .before .before .before), c .before .before .before .before .put .ensures .next))
 
 put-requires-2 : tie.Need-put-requires-2
 put-requires-2 c κs = omega (arith, room (c .before .before .before .before .before .before .before .before .before .before .before), c .before .before .before .put-place .ensures .next, c .before .before .before .before .before .before .before .before .put .ensures .next)
@@ -33,7 +33,7 @@ slice-aggregate-put-place-2 : tie.Need-slice-aggregate-put-place-2
 slice-aggregate-put-place-2 c = search needs
 
 put-place-requires-2 : tie.Need-put-place-requires-2
-put-place-requires-2 c κs = (c .before .before .before .before .before .before .before .before .before .before .before .before .before .before .before .before .pre .0, omega (arith, room (c .before .before .before .before .before .before .before .before .before .before .before .before .before .before .before .before), c .before .before .before .before .put2 .ensures .next, c .before .before .before .before .before .before .before .before .put-place .ensures .next, c .before .before .before .before .before .before .before .before .before .before .before .before .before .put .ensures .next))
+put-place-requires-2 c κs = (c .before .before .before .before .before .before .before .before .before .before .before .before .before .before .before .before .pre .0, c .before .before .before .before .before .before .before .before .before .before .before .before .before .before .before .before .pre .2, omega (arith, room (c .before .before .before .before .before .before .before .before .before .before .before .before .before .before .before .before), c .before .before .before .before .put2 .ensures .next, c .before .before .before .before .before .before .before .before .put-place .ensures .next, c .before .before .before .before .before .before .before .before .before .before .before .before .before .put .ensures .next))
 
 same-length : tie.Need-same-length
 same-length c = search needs

@@ -10,6 +10,7 @@ use Rattle.output.proofs.Pieces.{pieces-none, pieces-next}
 use Rattle.ordering.proofs.Lists.{each-get}
 use Rattle.ordering.proofs.Flat.{flat-places}
 use Rattle.listing.specs.Listing.{spansOf, lineAt}
+use Rattle.listing_spans.proofs.Fits.{fits-at}
 use Rattle.listing_spans.proofs.Sound.{sound-at}
 use borrow.Author.Needs.{needs}
 use Rattle.listing_spans.proofs.lines_length.Statement.{statement}
@@ -93,7 +94,9 @@ span-length-requires c κs =
     let s = c .before .before .before .before .before .before .before .before .before .before .before .before .before .before .before .before .before .before in
     let a = s .args in
     let sound = s .pre .1 .1 .0 in
-    (s .pre .0, (sound .0, sound .1, sound-at (a .options) (spansOf (a .offsets .now) (a .sizes .now) (a .addrs .now) (a .files .now) (a .starts .now) (a .ends .now)) (a .firmware .now) (a .protocol .now) (sound .2) _ (below (c .before .before .before .before .before .before .before))))
+    let place = below (c .before .before .before .before .before .before .before) in
+    let fits = fits-at (a .options) (a .offsets .now) (a .sizes .now) (a .addrs .now) (length (a .offsets .now)) _ place in
+    ((s .pre .0 .0, s .pre .0 .1, rw (s .pre .0 .2) fits), (sound .0, sound .1, sound-at (a .options) (spansOf (a .offsets .now) (a .sizes .now) (a .addrs .now) (a .files .now) (a .starts .now) (a .ends .now)) (a .firmware .now) (a .protocol .now) (sound .2) _ place))
 
 add-needed : tie.Need-add-needed Inv-loop μ-loop
 add-needed c =

@@ -12,6 +12,7 @@ use Rattle.output.proofs.Writes.{writes-nothing, writes-then}
 use Rattle.ordering.proofs.Lists.{each-get}
 use Rattle.ordering.proofs.Flat.{flat-places}
 use Rattle.listing.specs.Listing.{spansOf, lineAt}
+use Rattle.listing_spans.proofs.Fits.{fits-at}
 use Rattle.listing_spans.proofs.Sound.{sound-at}
 use borrow.Author.Needs.{needs}
 use Rattle.listing_spans.proofs.put_lines.Statement.{statement}
@@ -97,7 +98,9 @@ unfolding lineAt
 put-span-requires c κs =
     let s = c .before .before .before .before .before .before .before .before .before .before .before .before .before .before .before .before .before .before .before .before .before in
     let a = s .args in
-    ((s .pre .0, sound-at (a .options) (spansOf (a .offsets .now) (a .sizes .now) (a .addrs .now) (a .files .now) (a .starts .now) (a .ends .now)) (a .firmware .now) (a .protocol .now) (s .pre .1 .1 .0) _ (below (c .before .before .before .before .before .before .before .before))), room (c .before .before .before .before .before .before .before .before))
+    let place = below (c .before .before .before .before .before .before .before .before) in
+    let fits = fits-at (a .options) (a .offsets .now) (a .sizes .now) (a .addrs .now) (length (a .offsets .now)) _ place in
+    ((s .pre .0 .0, rw (s .pre .0 .1) fits, sound-at (a .options) (spansOf (a .offsets .now) (a .sizes .now) (a .addrs .now) (a .files .now) (a .starts .now) (a .ends .now)) (a .firmware .now) (a .protocol .now) (s .pre .1 .1 .0) _ place), room (c .before .before .before .before .before .before .before .before))
 
 add-k : tie.Need-add-k Inv-loop μ-loop
 add-k c = record { fits = omega (arith, mul-p (c .before .before .before .before .before .before .before .before .before .before .before) .fits) }

@@ -15,14 +15,14 @@ excerpt-requires : tie.Need-excerpt-requires
 excerpt-requires c κs =
     let s = c .before .before .before .before .before .before in
     let a = s .args in
-    in-text (a .options) (a .firmware .now) (a .protocol .now) (a .offset) (a .size) (a .file) (a .start) (a .end) (s .pre .0 .1) (sym (c .before .shown .ensures) ∙ c .if1 .taken)
+    in-text (a .options) (a .firmware .now) (a .protocol .now) (a .offset) (a .size) (a .file) (a .start) (a .end) (s .pre .0 .2) (sym (c .before .shown .ensures) ∙ c .if1 .taken)
 
 put-line-requires : tie.Need-put-line-requires
 put-line-requires c κs =
     let s = c .before .before .before .before .before .before .before .before in
     let a = s .args in
     let line = line-shown (a .options) (a .widths) (a .image .now) (a .bits) (a .offset) (a .size) (a .addr) (excerptOf (a .firmware .now) (a .protocol .now) (a .file) (a .start) (a .end)) (sym (c .before .before .before .shown .ensures) ∙ c .before .before .if1 .taken) in
-    (s .pre .0 .0, rw (c .before .excerpt .ensures, ← line) (s .pre .1))
+    (s .pre .0 .0, s .pre .0 .1, rw (c .before .excerpt .ensures, ← line) (s .pre .1))
 
 same-length : tie.Need-same-length
 same-length c = search needs

@@ -30,7 +30,7 @@ line-length-requires c κs =
     let a = s .args in
     let at = placed (c .before) in
     let short = source-short (a .firmware .now) (a .protocol .now) (a .file) 1048576 (s .pre .1 .0) (s .pre .1 .1) in
-    (s .pre .0 .0, s .pre .0 .1, omega (arith, at .0, at .1, ap length (c .excerpt .ensures), excerpt-length (a .firmware .now) (a .protocol .now) (a .file) (a .start) (a .end) (at .0) (at .1)))
+    (s .pre .0 .0, s .pre .0 .1, omega (arith, at .0, at .1, ap length (c .excerpt .ensures), excerpt-length (a .firmware .now) (a .protocol .now) (a .file) (a .start) (a .end) (at .0) (at .1)), s .pre .0 .2)
 
 returns : tie.Need-returns
 returns c =
