@@ -14,7 +14,7 @@ use Rattle.output.proofs.Pieces.{pieces-equal}
 use Rattle.output.proofs.Joined.{joined-next, joined-room}
 use Rattle.rows.specs.declared.ByteDigits.{ByteDigits}
 use Rattle.rows.specs.declared.ByteDigits.the-variants.{Binary, Hex}
-use Rattle.rows.specs.Rows.{perByte, digitBits, byteDigits, bytesText, rowsText}
+use Rattle.rows.specs.Rows.{digitsOf, perByte, digitBits, byteDigits, bytesText, rowsText}
 use Rattle.rows.proofs.Rows.{rows-none, singles-next}
 use Rattle.digits.specs.Run.{digitAt, run}
 use Rattle.digits.proofs.Run.{bytes-run}
@@ -45,6 +45,11 @@ whole-byte : (kind : ByteDigits) (bytes : List ℕ) (len i : ℕ) → i * 8 + 8 
 unfolding dumpByte
 whole-byte kind bytes len i h =
     ap (λ (t : List ℕ). t ++ ascii " ") (digits-inside kind bytes len i h ∙ sym (bytes-run kind bytes len i 1) ∙ single kind bytes len i)
+
+-- The same in binary digits.
+pub binary-byte : (bytes : List ℕ) (len i : ℕ) → i * 8 + 8 ≤ len → getD bytes i 0 < 256 → dumpByte bytes len 1 (i * 8) ≡ digitsOf 1 8 (getD bytes i 0) ++ ascii " "
+unfolding byteDigits
+binary-byte bytes len i h l = whole-byte Binary bytes len i h ∙ rw (byte-whole bytes len i h l)
 
 -- Before a byte stands one more space where its number is a multiple of four.
 gap-whole : (j : ℕ) → 0 < j → j % 4 ≡ 0 → leading gap j ≡ ascii " "

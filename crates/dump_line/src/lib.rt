@@ -7,7 +7,6 @@ ghost use Prim.Native.Nat.{ℕ, _+_, _*_, _/_, _≤_, _<_, _^_};
 ghost use lib.ListN.{length};
 ghost use Rattle.output.specs.Writes.{Writes};
 ghost use Rattle.numbers.specs.Digits.{digitCount};
-ghost use Rattle.rows.specs.Rows.{digitBits};
 ghost use Rattle.dump_line.specs.Line.{dumpDigit, printed, dumpChar, dumpByte, digitColumn, charColumn, dumpLine};
 use bitvec::BitOffset;
 use numbers::Letters;
@@ -129,29 +128,48 @@ fn put_char_column(
     next
 }
 
-// Stores the `count` bytes of a line from byte `first` on, which are whole bytes of the image: groups of
-// four with a space between them.
+// Stores the `count` bytes of a line from byte `first` on, which are whole bytes of the image, in
+// hexadecimal: groups of four with a space between them.
 fn put_groups(
     out: &mut [u8],
     at: usize,
-    kind: ByteDigits,
     image: &[u8],
     bits: usize,
     first: usize,
     count: usize,
 ) -> usize
     requires inside { ⌜ (0 < count) × ((first + count) * 8 ≤ bits) × (first + count ≤ length (now image)) ⌝ }
-    requires room { ⌜ at + length (digitColumn (now image) bits (digitBits kind) first count) ≤ length (now out) ⌝ }
-    ensures { λ r. ⌜ Writes (digitColumn (now (image .entry)) bits (digitBits kind) first count) (now (out .entry)) at (now (out .exit)) r ⌝ }
+    requires room { ⌜ at + length (digitColumn (now image) bits 4 first count) ≤ length (now out) ⌝ }
+    ensures { λ r. ⌜ Writes (digitColumn (now (image .entry)) bits 4 first count) (now (out .entry)) at (now (out .exit)) r ⌝ }
 {
     let mut next = at;
     let mut j = 0;
     while 4 < count - j {
-        next = rows::put_rows(out, next, kind, image, bits, first + j, 1, b" ", 4);
+        next = rows::put_rows(
+            out,
+            next,
+            ByteDigits::Hex,
+            image,
+            bits,
+            first + j,
+            1,
+            b" ",
+            4,
+        );
         next = output::put(out, next, b' ');
         j += 4;
     }
-    rows::put_rows(out, next, kind, image, bits, first + j, 1, b" ", count - j)
+    rows::put_rows(
+        out,
+        next,
+        ByteDigits::Hex,
+        image,
+        bits,
+        first + j,
+        1,
+        b" ",
+        count - j,
+    )
 }
 
 // Stores the `count` bytes of a line from byte `first` on, which are whole bytes of the image, as
@@ -176,6 +194,67 @@ fn put_whole_chars(
     next
 }
 
+// Stores a whole byte of the image as binary digits, and a space.
+fn put_binary_byte(out: &mut [u8], at: usize, image: &[u8], bits: usize, first: usize) -> usize
+    requires inside { ⌜ (first * 8 + 8 ≤ bits) × (first < length (now image)) ⌝ }
+    requires room { ⌜ at + 9 ≤ length (now out) ⌝ }
+    ensures { λ r. ⌜ Writes (dumpByte (now (image .entry)) bits 1 (first * 8)) (now (out .entry)) at (now (out .exit)) r ⌝ }
+{
+    let byte = image[first];
+    let next = eight_chars::put_bits(out, at, byte);
+    output::put(out, next, b' ')
+}
+
+// Stores the `count` bytes of a line from byte `first` on, which are whole bytes of the image, as binary
+// digits.
+fn put_binary_column(
+    out: &mut [u8],
+    at: usize,
+    image: &[u8],
+    bits: usize,
+    first: usize,
+    count: usize,
+) -> usize
+    requires inside { ⌜ ((first + count) * 8 ≤ bits) × (first + count ≤ length (now image)) ⌝ }
+    requires room { ⌜ at + length (digitColumn (now image) bits 1 first count) ≤ length (now out) ⌝ }
+    ensures { λ r. ⌜ Writes (digitColumn (now (image .entry)) bits 1 first count) (now (out .entry)) at (now (out .exit)) r ⌝ }
+{
+    let mut next = at;
+    let mut j = 0;
+    while j < count {
+        next = output::put_between(out, next, 4, j, b' ');
+        next = put_binary_byte(out, next, image, bits, first + j);
+        j += 1;
+    }
+    next
+}
+
+// The character of a whole byte of the image.
+fn whole_char(image: &[u8], bits: usize, first: usize) -> u8
+    requires { ⌜ (first * 8 + 8 ≤ bits) × (first < length (now image)) ⌝ }
+    ensures { λ r. ⌜ r ≡ dumpChar (now (image .entry)) bits (first * 8) ⌝ }
+{
+    printed(image[first])
+}
+
+// Stores the eight bytes of a line from byte `first` on, which are whole bytes of the image, as
+// characters. All are found before one is stored, so that the compiler can do them at once.
+fn put_eight_chars(out: &mut [u8], at: usize, image: &[u8], bits: usize, first: usize) -> usize
+    requires inside { ⌜ ((first + 8) * 8 ≤ bits) × (first + 8 ≤ length (now image)) ⌝ }
+    requires room { ⌜ at + 8 ≤ length (now out) ⌝ }
+    ensures { λ r. ⌜ Writes (charColumn (now (image .entry)) bits first 8) (now (out .entry)) at (now (out .exit)) r ⌝ }
+{
+    let c0 = whole_char(image, bits, first);
+    let c1 = whole_char(image, bits, first + 1);
+    let c2 = whole_char(image, bits, first + 2);
+    let c3 = whole_char(image, bits, first + 3);
+    let c4 = whole_char(image, bits, first + 4);
+    let c5 = whole_char(image, bits, first + 5);
+    let c6 = whole_char(image, bits, first + 6);
+    let c7 = whole_char(image, bits, first + 7);
+    eight_chars::put_eight(out, at, c0, c1, c2, c3, c4, c5, c6, c7)
+}
+
 // Stores the `count` bytes of a line from byte `first` on, in digits of `width` bits.
 fn put_digits(
     out: &mut [u8],
@@ -192,17 +271,17 @@ fn put_digits(
 {
     if (first + count) * 8 <= bits {
         if width == 1 {
-            return put_groups(out, at, ByteDigits::Binary, image, bits, first, count);
+            return put_binary_column(out, at, image, bits, first, count);
         }
         if width == 4 {
-            return put_groups(out, at, ByteDigits::Hex, image, bits, first, count);
+            return put_groups(out, at, image, bits, first, count);
         }
     }
     put_digit_column(out, at, image, bits, width, first, count)
 }
 
 // Stores the `count` bytes of a line from byte `first` on, as characters. The eight bytes of a line of a
-// bindump are too few for a loop of any number of turns to do many at once; one of eight turns does.
+// bindump are too few for a loop to do many at once.
 fn put_chars(
     out: &mut [u8],
     at: usize,
@@ -216,7 +295,7 @@ fn put_chars(
 {
     if (first + count) * 8 <= bits {
         if count == 8 {
-            return put_whole_chars(out, at, image, bits, first, 8);
+            return put_eight_chars(out, at, image, bits, first);
         }
         return put_whole_chars(out, at, image, bits, first, count);
     }

@@ -10,17 +10,17 @@ add-if1 c = search needs
 mul-if1 : tie.Need-mul-if1
 mul-if1 c = search needs
 
-put-whole-chars-requires : tie.Need-put-whole-chars-requires
-put-whole-chars-requires c κs = search needs
+put-eight-chars-requires : tie.Need-put-eight-chars-requires
+put-eight-chars-requires c κs = search needs
 
 same-length : tie.Need-same-length
 same-length c = search needs
 
 returns : tie.Need-returns
-returns c = rw (c .before .before .before .before .if2 .taken) (c .before .before .put-whole-chars .ensures)
+returns c = rw (c .before .before .before .before .if2 .taken) (c .before .before .put-eight-chars .ensures)
 
-put-whole-chars-requires-2 : tie.Need-put-whole-chars-requires-2
-put-whole-chars-requires-2 c κs = search needs
+put-whole-chars-requires : tie.Need-put-whole-chars-requires
+put-whole-chars-requires c κs = search needs
 
 same-length-2 : tie.Need-same-length-2
 same-length-2 c = search needs
@@ -43,10 +43,10 @@ put-chars-spec =
     (tie.spec
     add-if1
     mul-if1
-    put-whole-chars-requires
+    put-eight-chars-requires
     same-length
     returns
-    put-whole-chars-requires-2
+    put-whole-chars-requires
     same-length-2
     returns-2
     put-char-column-requires

@@ -1,4 +1,4 @@
--- `dump_line::put_digits` meets its contract: groups of whole bytes in digits of the one width or the other, and else byte by byte.
+-- `dump_line::put_digits` meets its contract: whole bytes in digits of the one width or the other, and else byte by byte.
 -- Assumes nothing.
 use native.Mathlib.Omega.{arith}
 use borrow.Author.Needs.{needs}
@@ -11,19 +11,19 @@ add-if1 c = search needs
 mul-if1 : tie.Need-mul-if1
 mul-if1 c = search needs
 
-put-groups-requires : tie.Need-put-groups-requires
-put-groups-requires c κs =
+put-binary-column-requires : tie.Need-put-binary-column-requires
+put-binary-column-requires c κs =
     let start = c .before .before .before .before .before in
-    ((start .pre .0 .3, c .before .before .if1 .taken, omega (arith, start .pre .0 .5)), rw (c .before .if2 .taken) at (start .pre .1))
+    ((c .before .before .if1 .taken, omega (arith, start .pre .0 .5)), rw (c .before .if2 .taken) at (start .pre .1))
 
 same-length : tie.Need-same-length
 same-length c = search needs
 
 returns : tie.Need-returns
-returns c = rw (c .before .before .before .before .if2 .taken) (c .before .before .put-groups .ensures)
+returns c = rw (c .before .before .before .before .if2 .taken) (c .before .before .put-binary-column .ensures)
 
-put-groups-requires-2 : tie.Need-put-groups-requires-2
-put-groups-requires-2 c κs =
+put-groups-requires : tie.Need-put-groups-requires
+put-groups-requires c κs =
     let start = c .before .before .before .before .before .before in
     ((start .pre .0 .3, c .before .before .before .if1 .taken, omega (arith, start .pre .0 .5)), rw (c .before .if3 .taken) at (start .pre .1))
 
@@ -31,7 +31,7 @@ same-length-2 : tie.Need-same-length-2
 same-length-2 c = search needs
 
 returns-2 : tie.Need-returns-2
-returns-2 c = rw (c .before .before .before .before .if3 .taken) (c .before .before .put-groups2 .ensures)
+returns-2 c = rw (c .before .before .before .before .if3 .taken) (c .before .before .put-groups .ensures)
 
 put-digit-column-requires : tie.Need-put-digit-column-requires
 put-digit-column-requires c κs = search needs
@@ -48,10 +48,10 @@ put-digits-spec =
     (tie.spec
     add-if1
     mul-if1
-    put-groups-requires
+    put-binary-column-requires
     same-length
     returns
-    put-groups-requires-2
+    put-groups-requires
     same-length-2
     returns-2
     put-digit-column-requires

@@ -11,6 +11,7 @@ use Rattle.output.specs.Pieces.{leading}
 use Rattle.output.specs.Writes.{Writes}
 use Rattle.output.proofs.Joined.{joined-none}
 use Rattle.output.proofs.Writes.{writes-nothing, writes-then, writes-length}
+use Rattle.rows.specs.declared.ByteDigits.the-variants.{Hex}
 use Rattle.rows.specs.Rows.{rowsText}
 use Rattle.rows.proofs.Rows.{rows-length}
 use Rattle.dump_line.proofs.Whole.{before, group-next, group-room, group-last}
@@ -18,20 +19,20 @@ use Rattle.dump_line.proofs.put_groups.Statement.{statement}
 use Rattle.dump_line.proofs.put_groups.Tie as tie
 
 abbrev Inv-loop : tie.InvT-loop
-Inv-loop out₀ at kind image bits first count next₀ j₀ t10 t11 out next j =
+Inv-loop out₀ at image bits first count next₀ j₀ t10 t11 out next j =
     (j < count)
     × (j % 4 ≡ 0)
-    × Writes (before kind image bits first j) out₀ at out next
+    × Writes (before Hex image bits first j) out₀ at out next
     × (length out ≡ length out₀)
 
 abbrev μ-loop : tie.MeasureT-loop
-μ-loop out₀ at kind image bits first count next₀ j₀ t10 t11 out next j = count - j
+μ-loop out₀ at image bits first count next₀ j₀ t10 t11 out next j = count - j
 
 -- the row of a group of n bytes
 abbrev row : tie.At-loop Inv-loop μ-loop → ℕ → List ℕ
 row l n =
     let a = l .before .before .before .args in
-    rowsText (a .kind) (a .image .now) (a .bits) (a .first + l .loop .j) 1 (ascii " ") n
+    rowsText Hex (a .image .now) (a .bits) (a .first + l .loop .j) 1 (ascii " ") n
 
 -- in a turn there is room for a group and a space
 room : (c : tie.In-loop Inv-loop μ-loop) → c .before .loop .next + (length (row (c .before) 4) + 1) ≤ length (c .before .loop .out)
@@ -40,7 +41,7 @@ room c =
     let start = l .before .before .before in
     let a = start .args in
     omega
-    (arith, l .loop .inv .2 .next, group-room (a .kind) (a .image .now) (a .bits) (a .first) (l .loop .j) (a .count) (l .loop .inv .1) (omega arith) (omega (arith, start .pre .0 .1)), start .pre .1)
+    (arith, l .loop .inv .2 .next, group-room Hex (a .image .now) (a .bits) (a .first) (l .loop .j) (a .count) (l .loop .inv .1) (omega arith) (omega (arith, start .pre .0 .1)), start .pre .1)
 
 loop-holds : tie.Need-loop-holds Inv-loop μ-loop
 unfolding leading
@@ -61,7 +62,7 @@ put-rows-requires c κs =
     let l = turn .before in
     let start = l .before .before .before in
     let a = start .args in
-    let long = rows-length (a .kind) (a .image .now) (a .bits) (a .first + l .loop .j) 1 (ascii " ") 4 in
+    let long = rows-length Hex (a .image .now) (a .bits) (a .first + l .loop .j) 1 (ascii " ") 4 in
     ((omega (arith, start .pre .0 .1), omega (arith, start .pre .0 .2)), omega (arith, room turn, long))
 
 put-requires : tie.Need-put-requires Inv-loop μ-loop
@@ -85,7 +86,7 @@ loop-again c =
     let a = start .args in (
       omega arith,
       omega arith,
-      rw (group-next (a .kind) (a .image .now) (a .bits) (a .first) (l .loop .j) (l .loop .inv .1) (omega (arith, start .pre .0 .1)))
+      rw (group-next Hex (a .image .now) (a .bits) (a .first) (l .loop .j) (l .loop .inv .1) (omega (arith, start .pre .0 .1)))
           (writes-then (l .loop .inv .2) (writes-then {a = row l 4} (put .put-rows .ensures) (space .put .ensures))),
       omega (arith, writes-length {t = row l 4} (put .put-rows .ensures), writes-length (space .put .ensures)),
     )
@@ -105,9 +106,9 @@ put-rows-requires-2 c κs =
     let start = l .before .before .before in
     let a = start .args in
     let j = l .loop .j in
-    let long = rows-length (a .kind) (a .image .now) (a .bits) (a .first + j) 1 (ascii " ") (a .count - j) in
-    let last = ap length (group-last (a .kind) (a .image .now) (a .bits) (a .first) j (a .count) (l .loop .inv .1) (omega arith) (omega arith) (start .pre .0 .1)) in
-    let parts = length-append (before (a .kind) (a .image .now) (a .bits) (a .first) j) (row l (a .count - j)) in
+    let long = rows-length Hex (a .image .now) (a .bits) (a .first + j) 1 (ascii " ") (a .count - j) in
+    let last = ap length (group-last Hex (a .image .now) (a .bits) (a .first) j (a .count) (l .loop .inv .1) (omega arith) (omega arith) (start .pre .0 .1)) in
+    let parts = length-append (before Hex (a .image .now) (a .bits) (a .first) j) (row l (a .count - j)) in
     ((omega (arith, start .pre .0 .1), omega (arith, start .pre .0 .2)), omega (arith, long, last, parts, l .loop .inv .2 .next, start .pre .1))
 
 same-length : tie.Need-same-length Inv-loop μ-loop
@@ -119,7 +120,7 @@ returns c =
     let l = put .before .before .before .before in
     let start = l .before .before .before in
     let a = start .args in
-    rw (group-last (a .kind) (a .image .now) (a .bits) (a .first) (l .loop .j) (a .count) (l .loop .inv .1) (omega arith) (omega arith) (start .pre .0 .1))
+    rw (group-last Hex (a .image .now) (a .bits) (a .first) (l .loop .j) (a .count) (l .loop .inv .1) (omega arith) (omega arith) (start .pre .0 .1))
     (writes-then {b = row l (a .count - l .loop .j)} (l .loop .inv .2) (put .put-rows2 .ensures))
 
 pub put-groups-spec : {M : Type 1} → statement M
