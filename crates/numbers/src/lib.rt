@@ -1,6 +1,8 @@
 // Digits and numbers as text, written into the output buffer.
 ghost use mathlib.Core.Path.{_≡_};
+ghost use mathlib.Core.Bool.{cond};
 ghost use Prim.Native.Nat.{_+_, _≤_, _<_, max};
+ghost use lib.Dec.{ltb};
 ghost use lib.ListN.{length};
 ghost use Rattle.output.specs.Writes.{Writes};
 ghost use Rattle.numbers.specs.declared.Letters.the-variants.{Lower};
@@ -54,19 +56,27 @@ pub fn decimal_count(byte: u8) -> usize
     if byte < 100 { 2 } else { 3 }
 }
 
+// One where a byte is above a limit, and zero where not.
+fn above(limit: u8, byte: u8) -> usize
+    ensures { λ r. ⌜ r ≡ cond (ltb limit byte) 1 0 ⌝ }
+{
+    if limit < byte { 1 } else { 0 }
+}
+
 // Stores a byte in decimal, with no padding. Each of the three digits is stored, at a place that
 // the next one takes where it is not to be seen, so that no branch goes by the byte.
 pub fn put_decimal(out: &mut [u8], at: usize, byte: u8) -> usize
     requires { ⌜ at + digitCount 10 byte ≤ length (now out) ⌝ }
     ensures { λ r. ⌜ Writes (numberText Lower 10 byte) (now (out .entry)) at (now (out .exit)) r ⌝ }
 {
-    let count = decimal_count(byte);
-    let last = at + (count - 1);
-    let middle = at + free(2, count);
-    out[at] = digit_char(Letters::Lower, byte / 100);
-    out[middle] = digit_char(Letters::Lower, byte / 10 % 10);
-    out[last] = digit_char(Letters::Lower, byte % 10);
-    at + count
+    let hundreds = byte / 100;
+    let tens = byte / 10;
+    let middle = at + above(99, byte);
+    let last = middle + above(9, byte);
+    out[at] = b'0' + hundreds;
+    out[middle] = b'0' + (tens - hundreds * 10);
+    out[last] = b'0' + (byte - tens * 10);
+    last + 1
 }
 
 // How many digits `value` has in a radix.
