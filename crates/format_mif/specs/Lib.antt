@@ -1,1 +1,2 @@
 pub mod Mif
+pub mod Line

@@ -1,15 +1,16 @@
 // The memory initialization file (document 01, module 5; the Rust's `format_mif`). It answers a text
 // and its length, or refusal 1, 4 or 8.
 ghost use mathlib.Core.Path.{_≡_};
-ghost use mathlib.Core.List.{List};
+ghost use mathlib.Core.List.{List, _++_};
 ghost use Prim.Native.Nat.{ℕ, _+_, _-_, _*_, _≤_, _<_, _^_};
-ghost use lib.ListN.{length};
+ghost use lib.ListN.{length, take};
 ghost use Rattle.bitvec.specs.Size.{ceilDiv};
 ghost use Rattle.output.specs.Pieces.{pieces};
 ghost use Rattle.output.specs.Writes.{Writes};
 ghost use Rattle.outcome.specs.Outcome.{Exports};
 ghost use Rattle.numbers.specs.Digits.{digitCount};
 ghost use Rattle.format_mif.specs.Mif.{mifLine, mifText, mifOutcome};
+ghost use Rattle.format_mif.specs.Line.{lineHead, lineRest};
 use numbers::Letters;
 use outcome::Export;
 
@@ -22,26 +23,58 @@ fn mif_length(count: usize, width: usize) -> usize
     depth + count * (width + 7) + 79
 }
 
-// Stores the line of byte `k`, where the first `whole` bytes are whole.
-fn put_mif_line(
+// The first `width` characters of the lines of sixteen bytes, those from byte `row * 16` on: their
+// addresses differ in the last digit alone.
+fn line_head(row: usize, width: usize) -> [u8; 8]
+    requires { ⌜ (digitCount 16 row ≤ width) × (width ≤ 8) ⌝ }
+    ensures { λ r. ⌜ (take width r ≡ lineHead width row) × (length r ≡ 8) ⌝ }
+{
+    let mut head = [b' '; 8];
+    if row == 0 {
+        return head;
+    }
+    numbers::put_column(&mut head, 0, Letters::Upper, row as u64, 16, b' ', width);
+    head
+}
+
+// Stores the line of a byte whose address ends in `digit`. All eight characters of `head` are
+// stored, since a copy of one length is fast, and those behind the first `width` are stored over.
+fn put_mif_line(out: &mut [u8], at: usize, head: &[u8], width: usize, digit: u8, byte: u8) -> usize
+    requires lent { ⌜ (length (now head) ≡ 8) × (1 ≤ width) × (width ≤ 8) × (digit < 16) ⌝ }
+    requires room { ⌜ at + (width + 7) ≤ length (now out) ⌝ }
+    ensures { λ r. ⌜ Writes (take width (now (head .entry)) ++ lineRest digit byte) (now (out .entry)) at (now (out .exit)) r ⌝ }
+{
+    output::put_all(out, at, head);
+    let mut next = output::put(out, at + width, numbers::digit_char(Letters::Upper, digit));
+    next = output::put_all(out, next, b": ");
+    next = numbers::put_byte(out, next, Letters::Upper, byte);
+    output::put_all(out, next, b";\n")
+}
+
+// Stores the lines of `count` bytes, at most sixteen, from byte `row * 16` on, where the first
+// `whole` bytes are whole.
+fn put_mif_row(
     out: &mut [u8],
     at: usize,
     image: &[u8],
     bits: usize,
     whole: usize,
     width: usize,
-    k: usize,
+    row: usize,
+    count: usize,
 ) -> usize
-    requires bytes { ⌜ (k < 2 ^ 32) × (whole * 8 ≤ bits) × (whole ≤ length (now image)) ⌝ }
-    requires room { ⌜ (digitCount 16 k ≤ width) × (at + length (mifLine (now image) bits width k) ≤ length (now out)) ⌝ }
-    ensures { λ r. ⌜ Writes (mifLine (now (image .entry)) bits width k) (now (out .entry)) at (now (out .exit)) r ⌝ }
+    requires bytes { ⌜ (row * 16 + count < 2 ^ 32) × (whole * 8 ≤ bits) × (whole ≤ length (now image)) ⌝ }
+    requires fits { ⌜ (count ≤ 16) × (digitCount 16 (row * 16 + (count - 1)) ≤ width) × (width ≤ 8) ⌝ }
+    requires room { ⌜ at + length (pieces (λ j. mifLine (now image) bits width (row * 16 + j)) count) ≤ length (now out) ⌝ }
+    ensures { λ r. ⌜ Writes (pieces (λ j. mifLine (now (image .entry)) bits width (row * 16 + j)) count) (now (out .entry)) at (now (out .exit)) r ⌝ }
 {
-    let byte = byte_list::byte_of(image, bits, whole, k);
-    let mut next = output::put(out, at, b' ');
-    next = numbers::put_column(out, next, Letters::Upper, k as u64, 16, b' ', width);
-    next = output::put_all(out, next, b": ");
-    next = numbers::put_byte(out, next, Letters::Upper, byte);
-    output::put_all(out, next, b";\n")
+    let head = line_head(row, width);
+    let mut next = at;
+    for j in 0..count {
+        let byte = byte_list::byte_of(image, bits, whole, row * 16 + j);
+        next = put_mif_line(out, next, &head, width, j as u8, byte);
+    }
+    next
 }
 
 // Stores the lines of `count` bytes.
@@ -53,22 +86,23 @@ fn put_mif_lines(
     width: usize,
     count: usize,
 ) -> usize
-    requires { ⌜ (count < 2 ^ 32) × (width ≡ digitCount 16 (count - 1)) × (at + length (pieces (mifLine (now image) bits width) count) ≤ length (now out)) ⌝ }
+    requires { ⌜ (count ≤ 2 ^ 24) × (width ≡ digitCount 16 (count - 1)) × (at + length (pieces (mifLine (now image) bits width) count) ≤ length (now out)) ⌝ }
     ensures { λ r. ⌜ Writes (pieces (mifLine (now (image .entry)) bits width) count) (now (out .entry)) at (now (out .exit)) r ⌝ }
 {
     let whole = byte_list::whole_bytes(image, bits, count);
     let mut next = at;
-    let mut k = 0;
-    while k < count {
-        next = put_mif_line(out, next, image, bits, whole, width, k);
-        k += 1;
+    let mut row = 0;
+    while row * 16 < count {
+        let lines = output::smaller(count - row * 16, 16);
+        next = put_mif_row(out, next, image, bits, whole, width, row, lines);
+        row += 1;
     }
     next
 }
 
 // Stores the file, of `count` bytes.
 fn write_mif(image: &[u8], bits: usize, count: usize, width: usize, out: &mut [u8]) -> usize
-    requires { ⌜ (count < 2 ^ 32) × (count ≡ ceilDiv bits 8) × (width ≡ digitCount 16 (count - 1)) × (length (mifText (now image) bits) ≤ length (now out)) ⌝ }
+    requires { ⌜ (count ≤ 2 ^ 24) × (count ≡ ceilDiv bits 8) × (width ≡ digitCount 16 (count - 1)) × (length (mifText (now image) bits) ≤ length (now out)) ⌝ }
     ensures { λ r. ⌜ Writes (mifText (now (image .entry)) bits) (now (out .entry)) 0 (now (out .exit)) r ⌝ }
 {
     let mut next = output::put_all(out, 0, b"DEPTH = ");

@@ -1,85 +1,85 @@
--- `format_mif::put_mif_line` meets its contract: one writer after another.
+-- `format_mif::put_mif_line` meets its contract: the rest is written over the end of the head.
 -- Assumes nothing.
-use Prim.Native.Nat.{_+_, _≤_}
+use mathlib.Core.Path.{_≡_}
+use Prim.Native.Nat.{_+_, _-_, _≤_}
 use native.Mathlib.Omega.{arith}
-use lib.ListN.{length}
+use lib.ListN.{length, take, drop, length-drop, take-append-drop}
 use borrow.Author.Needs.{needs}
-use Rattle.output.proofs.Writes.{writes-then}
-use Rattle.numbers.specs.declared.Letters.the-variants.{Upper}
-use Rattle.numbers.specs.Digits.{numberText, byteText}
-use Rattle.numbers.proofs.Digits.{number-length, padded-length}
-use Rattle.format_mif.specs.Mif.{mifLine}
-use Rattle.format_mif.proofs.Lengths.{mif-line-length}
+use Rattle.output.proofs.Writes.{writes-then, writes-over}
+use Rattle.numbers.specs.Digits.{byteText}
+use Rattle.format_mif.specs.Line.{lineRest}
+use Rattle.format_mif.proofs.Line.{rest-length}
 use Rattle.format_mif.proofs.put_mif_line.Statement.{statement}
 use Rattle.format_mif.proofs.put_mif_line.Tie as tie
 
-byte-of-requires : tie.Need-byte-of-requires
-byte-of-requires c κs = search needs
+put-all-requires : tie.Need-put-all-requires
+put-all-requires c κs = search needs
+
+add-put : tie.Need-add-put
+add-put c = search needs
+
+digit-char-requires : tie.Need-digit-char-requires
+digit-char-requires c κs = search needs
 
 put-requires : tie.Need-put-requires
-put-requires c κs =
-    let a = c .before .before .before .before .args in
-    omega (arith, mif-line-length (a .image .now) (a .bits) (a .width) (a .k))
-
-put-column-requires : tie.Need-put-column-requires
-put-column-requires c κs =
-    let a = c .before .before .before .before .before .before .before .before .args in
-    omega (arith, mif-line-length (a .image .now) (a .bits) (a .width) (a .k), c .before .before .before .put .ensures .next)
+put-requires c κs = search needs
 
 slice-aggregate-put-all : tie.Need-slice-aggregate-put-all
 slice-aggregate-put-all c = search needs
 
--- there is room for what comes behind the address
-room : (c : tie.After-put-column) → c .put-column .result + 6 ≤ length (c .before .before .before .before .before .before .before .before .before .args .out .now)
-room c =
-    let start = c .before .before .before .before .before .before .before .before .before in
-    let a = start .args in
-    let number = numberText Upper 16 (a .k) in
-    let line = mif-line-length (a .image .now) (a .bits) (a .width) (a .k) in
-    let address = padded-length 32 (a .width) number in
-    omega (arith, start .pre .1 .1, c .before .before .before .before .put .ensures .next, c .put-column .ensures .next, number-length Upper 16 (a .k))
-
-put-all-requires : tie.Need-put-all-requires
-put-all-requires c κs = omega (arith, room (c .before .before .before .before))
+put-all-requires-2 : tie.Need-put-all-requires-2
+put-all-requires-2 c κs = search needs
 
 put-byte-requires : tie.Need-put-byte-requires
-put-byte-requires c κs = omega (arith, room (c .before .before .before .before .before .before .before .before), c .before .before .before .put-all .ensures .next)
+put-byte-requires c κs = search needs
 
 slice-aggregate-put-all-2 : tie.Need-slice-aggregate-put-all-2
 slice-aggregate-put-all-2 c = search needs
 
-put-all-requires-2 : tie.Need-put-all-requires-2
+put-all-requires-3 : tie.Need-put-all-requires-3
 unfolding byteText
-put-all-requires-2 c κs = omega (arith, room (c .before .before .before .before .before .before .before .before .before .before .before .before .before), c .before .before .before .before .before .before .before .before .put-all .ensures .next, c .before .before .before .before .put-byte .ensures .next)
+put-all-requires-3 c κs =
+    let byte = c .before .before .before .before in
+    let colon = byte .before .before .before .before in
+    let digit = colon .before .before .before .before .before in
+    let start = digit .before .before .before .before .before .before .before .before .before in
+    omega (arith, byte .put-byte .ensures .next, colon .put-all2 .ensures .next, digit .put .ensures .next, start .pre .1)
 
 same-length : tie.Need-same-length
 same-length c = search needs
 
 returns : tie.Need-returns
-unfolding mifLine
+unfolding lineRest
 returns c =
     let ended = c .before .before in
     let byte = ended .before .before .before .before .before in
     let colon = byte .before .before .before .before in
-    let address = colon .before .before .before .before .before in
-    let space = address .before .before .before .before in
-    writes-then (space .put .ensures)
-    (writes-then (address .put-column .ensures)
-    (writes-then (colon .put-all .ensures)
-    (writes-then (rw (space .before .before .byte-of .ensures) at (byte .put-byte .ensures))
-    (ended .put-all2 .ensures))))
+    let digit = colon .before .before .before .before .before in
+    let char = digit .before in
+    let all = char .before .before .before .before in
+    let start = all .before .before .before .before in
+    let a = start .args in
+    let head = take (a .width) (a .head .now) in
+    let over = drop (a .width) (a .head .now) in
+    let short = length-drop (a .width) (a .head .now) in
+    let place : a .at + a .width ≡ all .put-all .result - length over = omega (arith, short, all .put-all .ensures .next, start .pre .0 .0) in
+    let parts = rw (← take-append-drop (a .width) (a .head .now)) at (all .put-all .ensures) in
+    let last = rw (char .digit-char .ensures) at (digit .put .ensures) in
+    let rest = writes-then last (writes-then (colon .put-all2 .ensures) (writes-then (byte .put-byte .ensures) (ended .put-all3 .ensures))) in
+    writes-over head over (lineRest (a .digit) (a .byte)) (omega (arith, short, rest-length (a .digit) (a .byte), start .pre .0)) parts (rw place at rest)
 
 pub put-mif-line-spec : {M : Type 1} → statement M
 put-mif-line-spec =
     tie.close
     (tie.spec
-    byte-of-requires
-    put-requires
-    put-column-requires
-    slice-aggregate-put-all
     put-all-requires
+    add-put
+    digit-char-requires
+    put-requires
+    slice-aggregate-put-all
+    put-all-requires-2
     put-byte-requires
     slice-aggregate-put-all-2
-    put-all-requires-2
+    put-all-requires-3
     same-length
     returns)
