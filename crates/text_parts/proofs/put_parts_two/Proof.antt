@@ -1,0 +1,113 @@
+-- `text_parts::put_parts_two` meets its contract: after k turns k parts are written.
+-- Assumes nothing.
+use mathlib.Core.Path.{_≡_, refl}
+use mathlib.Core.List.{[], _∷_}
+use Prim.Native.Nat.{_+_, _-_, _*_, _≤_}
+use native.Mathlib.Omega.{arith}
+use lib.ListN.{length}
+use borrow.Author.Needs.{needs}
+use Rattle.output.specs.Writes.{Writes}
+use Rattle.output.proofs.Writes.{writes-nothing, writes-then, writes-length}
+use Rattle.text_parts.specs.Parts.{partsWith}
+use Rattle.text_parts.proofs.Parts.{stride, part-length, parts-none, parts-next, parts-length}
+use Rattle.text_parts.proofs.put_parts_two.Statement.{statement}
+use Rattle.text_parts.proofs.put_parts_two.Tie as tie
+use Rattle.text_parts.proofs.put_parts_two.Reads as reads
+use Rattle.text_parts.proofs.put_parts_two.Lts as lts
+use Rattle.output.proofs.put.Reads as put-reads
+use Rattle.text_parts.proofs.put_part.Reads as put-part-reads
+
+abbrev Inv-loop : tie.InvT-loop
+Inv-loop out₀ at s size tail tail2 count next₀ k₀ out next k =
+    (k ≤ count) × Writes (partsWith s size (tail ∷ tail2 ∷ []) k) out₀ at out next × (length out ≡ length out₀)
+
+abbrev μ-loop : tie.MeasureT-loop
+μ-loop out₀ at s size tail tail2 count next₀ k₀ out next k = count - k
+
+-- in a turn a part is in the text, and there is room for it and what stands behind it
+inside : (c : tie.In-loop Inv-loop μ-loop)
+    → (let a = c .before .before .before .before .args in c .before .loop .k * a .size + a .size ≤ length (a .s .now))
+inside c =
+    let start = c .before .before .before .before in
+    let a = start .args in
+    omega (arith, stride (c .before .loop .k) (a .count) (a .size) (c .loop-test .taken), start .pre .0)
+
+room : (c : tie.In-loop Inv-loop μ-loop)
+    → (let a = c .before .before .before .before .args in c .before .loop .next + (a .size + 2) ≤ length (c .before .loop .out))
+room c =
+    let l = c .before .loop in
+    let start = c .before .before .before .before in
+    let a = start .args in
+    omega
+    (arith, l .inv .1 .next, parts-length (a .s .now) (a .size) (a .tail ∷ a .tail2 ∷ []) (l .k) (omega (arith, inside c)), stride (l .k) (a .count) (a .size + 2) (c .loop-test .taken), start .pre .1)
+
+loop-holds : tie.Need-loop-holds Inv-loop μ-loop
+loop-holds c = (search needs, rw (parts-none _ _ _) (writes-nothing _ _), refl)
+
+mul-put-part : tie.Need-mul-put-part Inv-loop μ-loop
+mul-put-part c = omega (arith, inside (c .before))
+
+put-part-requires : tie.Need-put-part-requires Inv-loop μ-loop
+put-part-requires c κs = (inside (c .before), omega (arith, room (c .before)))
+
+put-requires : tie.Need-put-requires Inv-loop μ-loop
+put-requires c κs =
+    let part = c .before .before .before in
+    let turn = part .before .before in
+    let a = turn .before .before .before .before .args in
+    omega
+    (arith, room turn, part .put-part .ensures .next, writes-length (part .put-part .ensures), part-length (a .s .now) (turn .before .loop .k * a .size) (a .size) (inside turn))
+
+put-requires-2 : tie.Need-put-requires-2 Inv-loop μ-loop
+put-requires-2 c κs =
+    let first = c .before .before .before in
+    let part = first .before .before .before .before in
+    let turn = part .before .before in
+    let a = turn .before .before .before .before .args in
+    omega
+    (arith, room turn, first .put .ensures .next, writes-length (first .put .ensures), part .put-part .ensures .next, writes-length (part .put-part .ensures), part-length (a .s .now) (turn .before .loop .k * a .size) (a .size) (inside turn))
+
+add-k : tie.Need-add-k Inv-loop μ-loop
+add-k c = search needs
+
+loop-less : tie.Need-loop-less Inv-loop μ-loop
+loop-less c = search needs
+
+loop-again : tie.Need-loop-again Inv-loop μ-loop
+loop-again c =
+    let last = c .before .before in
+    let first = last .before .before .before .before in
+    let part = first .before .before .before .before in
+    let turn = part .before .before in
+    let l = turn .before .loop in
+    let a = turn .before .before .before .before .args in (
+      search needs,
+      rw (parts-next (a .s .now) (a .size) (a .tail ∷ a .tail2 ∷ []) (l .k)) (writes-then (l .inv .1) (writes-then (part .put-part .ensures) (writes-then (first .put .ensures) (last .put2 .ensures)))),
+      omega (arith, writes-length (part .put-part .ensures), writes-length (first .put .ensures), writes-length (last .put2 .ensures)),
+    )
+
+same-length : tie.Need-same-length Inv-loop μ-loop
+same-length c = search needs
+
+returns : tie.Need-returns Inv-loop μ-loop
+returns c =
+    let l = c .before in
+    let done : l .loop .k ≡ l .before .before .before .args .count = omega arith in
+    rw done at (l .loop .inv .1)
+
+pub put-parts-two-spec : {M : Type 1} → statement M
+put-parts-two-spec =
+    tie.close
+    (tie.spec
+    Inv-loop
+    μ-loop
+    loop-holds
+    mul-put-part
+    put-part-requires
+    put-requires
+    put-requires-2
+    add-k
+    loop-less
+    loop-again
+    same-length
+    returns)
