@@ -126,7 +126,7 @@ fn list_few<'a>(
 {
     let count = offsets.len();
     let mut places = few_words();
-    ordering::order_few(offsets, &mut places);
+    span_order::order_few(offsets, &mut places);
     list_in_order(
         image,
         bits,
@@ -166,7 +166,7 @@ fn list_many<'a>(
 {
     let count = offsets.len();
     let mut places = words();
-    ordering::order(offsets, &mut places);
+    span_order::order(offsets, &mut places);
     list_in_order(
         image,
         bits,

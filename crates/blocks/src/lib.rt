@@ -2,8 +2,8 @@
 // one after the other. Spans are lent as two slices of numbers, the offsets, with 4294967295 for an
 // absent one, and the sizes.
 use ordering::ABSENT;
-use ordering::order;
-use ordering::order_few;
+use span_order::order;
+use span_order::order_few;
 use span_range::fault_at;
 use span_range::long_list;
 ghost use mathlib.Core.Path.{_≡_};

@@ -1,0 +1,2 @@
+mod Straight
+mod Checked
