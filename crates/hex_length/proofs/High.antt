@@ -11,6 +11,7 @@ use lib.Dec.{ltb}
 use lib.ListN.{length}
 use borrow.Author.Tests.{lt-ltb, le-ltb, ltb-false}
 use Rattle.bitvec.specs.Size.{ceilDiv}
+use Rattle.bitvec.proofs.Size.{ceil-inside}
 use Rattle.output.proofs.Order.{by-order}
 use Rattle.ordering.specs.Lists.{table, Each}
 use Rattle.ordering.proofs.Lists.{table-next, each-table}
@@ -18,6 +19,7 @@ use Rattle.blocks.specs.Blocks.{Block}
 use Rattle.hex_records.specs.Plan.{Chunk, blockBytes, chunkAt, blockPlan, hexPlan, tooHigh, blocksAt}
 use Rattle.ordering.proofs.Flat.{flat-append, flat-one}
 use Rattle.hex_records.proofs.Plan.{blockAt, flat-each}
+use Rattle.hex_length.specs.AtMost.{AtMost}
 
 -- The address fits.
 abbrev pub Low : Chunk → Type 0
@@ -113,3 +115,21 @@ blocks-low unit offsets sizes e =
     each-low (flatMap (blockPlan unit) (table (blockAt offsets sizes) (length offsets)))
     (flat-each Low (blockPlan unit) (table (blockAt offsets sizes) (length offsets))
     (each-table (λ b. Each Low (blockPlan unit b)) (blockAt offsets sizes) (length offsets) (λ k h. low-each (blockPlan unit (blockAt offsets sizes k)) (e k h))))
+
+-- A block whose offset and size are below half of the first address that does not fit.
+block-small : (unit : ℕ) (b : Block) (r : ℕ) → 0 < unit → b .offset ≤ r → b .size ≤ r → r / unit < 32768 → tooHigh (blockPlan unit b) ≡ false
+unfolding blockPlan chunkAt
+block-small unit b r u o s h =
+    each-low (table (chunkAt unit b) (ceilDiv (blockBytes b) 32)) (each-table Low (chunkAt unit b) (ceilDiv (blockBytes b) 32) fits)
+  where
+    fits : (n : ℕ) → n < ceilDiv (blockBytes b) 32 → (b .offset + 256 * n) / unit ≤ 65535
+    fits n l =
+        let bound = div-lt-iff-lt-mul {x = r} {y = 32768} u .0 h in
+        let inside = ceil-inside (blockBytes b) 32 n (omega arith) l in
+        let within = ceil-inside (b .size) 8 (n * 32) (omega arith) inside in
+        omega (arith, div-lt-iff-lt-mul {x = b .offset + 256 * n} {y = 65536} u .1 (omega (arith, bound, within, o, s)))
+
+pub blocks-small : (unit : ℕ) (offsets sizes : List ℕ) (r : ℕ) → 0 < unit → ((k : ℕ) → k < length offsets → AtMost offsets sizes r k) → r / unit < 32768
+    → tooHigh (hexPlan unit (blocksAt offsets sizes)) ≡ false
+blocks-small unit offsets sizes r u most h =
+    blocks-low unit offsets sizes (λ k l. block-small unit (blockAt offsets sizes k) r u (most k l .0) (most k l .1) h)

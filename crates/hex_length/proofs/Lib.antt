@@ -1,2 +1,3 @@
 mod Lengths
+mod Bits
 pub mod High

@@ -3,12 +3,14 @@
 use bitvec::BitOffset;
 use bitvec::parts;
 ghost use mathlib.Core.Path.{_≡_};
+ghost use mathlib.Core.Bool.{true, false};
 ghost use mathlib.Core.List.{List};
 ghost use Prim.Native.Nat.{ℕ, _+_, _*_, _≤_, _<_, _^_};
 ghost use lib.ListN.{length};
 ghost use Rattle.bitvec.specs.Size.{ceilDiv};
 ghost use Rattle.hex_records.specs.Plan.{blockPlan, hexPlan, tooHigh, blocksAt};
 ghost use Rattle.hex_records.specs.Text.{hexText};
+ghost use Rattle.hex_length.specs.AtMost.{AtMost};
 
 // The length of the records of a block: 12 characters for each, and 2 for each byte.
 fn block_length(size: usize) -> usize
@@ -43,8 +45,29 @@ fn block_high(offset: usize, size: usize, unit: usize) -> bool
     65535 < BitOffset(offset + 256 * (records - 1)).address(unit).0
 }
 
-// Whether the address of a record of the blocks is above 65,535, the cause of refusal 5.
-pub fn too_high(offsets: &[u32], sizes: &[u32], unit: usize) -> bool
+// A number that no offset and no size is above: the bits of all of them.
+fn joined(offsets: &[u32], sizes: &[u32]) -> u32
+    requires { ⌜ length (now offsets) ≡ length (now sizes) ⌝ }
+    ensures { λ r. ⌜ ((k : ℕ) → k < length (now (offsets .entry)) → AtMost (now (offsets .entry)) (now (sizes .entry)) r k) ⌝ }
+{
+    let mut all: u32 = 0;
+    for k in 0..offsets.len() {
+        all = all | offsets[k] | sizes[k];
+    }
+    all
+}
+
+// Whether no offset and no size is near the highest address, so that no block need be looked at.
+fn all_low(offsets: &[u32], sizes: &[u32], unit: usize) -> bool
+    requires { ⌜ (0 < unit) × (length (now offsets) ≡ length (now sizes)) ⌝ }
+    ensures { λ r. ⌜ (r ≡ true → tooHigh (hexPlan unit (blocksAt (now (offsets .entry)) (now (sizes .entry)))) ≡ false) ⌝ }
+{
+    let most = joined(offsets, sizes) as usize;
+    most / unit < 32768
+}
+
+// Whether the address of a record of a block is above 65,535, found block by block.
+fn any_high(offsets: &[u32], sizes: &[u32], unit: usize) -> bool
     requires { ⌜ (0 < unit) × (length (now offsets) ≡ length (now sizes)) ⌝ }
     ensures { λ r. ⌜ r ≡ tooHigh (hexPlan unit (blocksAt (now (offsets .entry)) (now (sizes .entry)))) ⌝ }
 {
@@ -54,4 +77,15 @@ pub fn too_high(offsets: &[u32], sizes: &[u32], unit: usize) -> bool
         }
     }
     false
+}
+
+// Whether the address of a record of the blocks is above 65,535, the cause of refusal 5.
+pub fn too_high(offsets: &[u32], sizes: &[u32], unit: usize) -> bool
+    requires { ⌜ (0 < unit) × (length (now offsets) ≡ length (now sizes)) ⌝ }
+    ensures { λ r. ⌜ r ≡ tooHigh (hexPlan unit (blocksAt (now (offsets .entry)) (now (sizes .entry)))) ⌝ }
+{
+    if all_low(offsets, sizes, unit) {
+        return false;
+    }
+    any_high(offsets, sizes, unit)
 }

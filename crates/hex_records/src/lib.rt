@@ -1,28 +1,23 @@
-// The records of Intel HEX files (document 01, module 8). A block is cut from its own start into bytes
-// and these into records of 32, the last shorter; each record is a line.
+// A record of an Intel HEX file (document 01, module 8), which is a line. The crate `hex_text` cuts blocks
+// into records.
 use bitvec::BitOffset;
 use bitvec::UnitAddress;
-use bitvec::parts;
 use bitvec::read_across;
 use bitvec::read_byte;
-use digits::least;
 use numbers::Letters;
 use numbers::put_byte;
 use output::put;
-use output::put_all;
 use std::num::wrapping_add_u8;
 use std::num::wrapping_sub_u8;
 ghost use mathlib.Core.Path.{_≡_};
 ghost use mathlib.Core.Bool.{true};
-ghost use mathlib.Core.List.{[], _∷_, _++_, flatMap};
+ghost use mathlib.Core.List.{[], _∷_, _++_};
 ghost use Prim.Native.Nat.{_+_, _*_, _/_, _%_, _^_, _≤_, _<_};
 ghost use lib.ListN.{length};
 ghost use lib.Seq.{sets};
 ghost use Rattle.output.specs.Ascii.{ascii};
 ghost use Rattle.output.specs.Writes.{Writes};
-ghost use Rattle.ordering.specs.Lists.{Each};
-ghost use Rattle.hex_records.specs.Plan.{hexPlan, blockPlan, blocksAt};
-ghost use Rattle.hex_records.specs.Text.{bytesFrom, total, hexBytes, recordText, hexText};
+ghost use Rattle.hex_records.specs.Text.{bytesFrom, total, hexBytes, recordText};
 
 // Writes `count` bytes of the image from `from` on, and adds them to `sum`, modulo 256.
 fn put_each(
@@ -172,7 +167,7 @@ fn put_head(count: u8, high: u8, low: u8, out: &mut [u8], at: usize) -> usize
 }
 
 // Writes one record: its bytes are the `count` bytes of the image from `from` on.
-fn put_record(
+pub fn put_record(
     bytes: &[u8],
     len: usize,
     from: BitOffset,
@@ -197,60 +192,4 @@ fn put_record(
         wrapping_sub_u8(0, sum),
     );
     put(out, end, b'\n')
-}
-
-// Writes the records of a block.
-fn put_block(
-    bytes: &[u8],
-    len: usize,
-    offset: usize,
-    size: usize,
-    unit: usize,
-    out: &mut [u8],
-    at: usize,
-) -> usize
-    requires small { ⌜ (0 < unit) × (offset < 2 ^ 32) × (size < 2 ^ 32) ⌝ }
-    requires low { ⌜ Each (λ c. c .address ≤ 65535) (blockPlan unit (record { offset = offset; size = size })) ⌝ }
-    requires room { ⌜ at + length (flatMap (recordText (now bytes) len) (blockPlan unit (record { offset = offset; size = size }))) ≤ length (now out) ⌝ }
-    ensures { λ r. ⌜ Writes (flatMap (recordText (now (bytes .entry)) len) (blockPlan unit (record { offset = offset; size = size }))) (now (out .entry)) at (now (out .exit)) r ⌝ }
-{
-    let count = parts(size, 8);
-    let records = parts(count, 32);
-    let mut next = at;
-    for n in 0..records {
-        let from = offset + 256 * n;
-        let address = BitOffset(from).address(unit);
-        let held = least(32, count - 32 * n);
-        next = put_record(bytes, len, BitOffset(from), address, held, out, next);
-    }
-    next
-}
-
-// Writes the records of the blocks whose offsets and sizes are lent, and the end record.
-pub fn write_hex(
-    bytes: &[u8],
-    len: usize,
-    offsets: &[u32],
-    sizes: &[u32],
-    unit: usize,
-    out: &mut [u8],
-) -> usize
-    requires lent { ⌜ (0 < unit) × (length (now offsets) ≡ length (now sizes)) ⌝ }
-    requires low { ⌜ Each (λ c. c .address ≤ 65535) (hexPlan unit (blocksAt (now offsets) (now sizes))) ⌝ }
-    requires room { ⌜ length (hexText (now bytes) len (hexPlan unit (blocksAt (now offsets) (now sizes)))) ≤ length (now out) ⌝ }
-    ensures { λ r. ⌜ Writes (hexText (now (bytes .entry)) len (hexPlan unit (blocksAt (now (offsets .entry)) (now (sizes .entry))))) (now (out .entry)) 0 (now (out .exit)) r ⌝ }
-{
-    let mut next: usize = 0;
-    for k in 0..offsets.len() {
-        next = put_block(
-            bytes,
-            len,
-            offsets[k] as usize,
-            sizes[k] as usize,
-            unit,
-            out,
-            next,
-        );
-    }
-    put_all(out, next, b":00000001FF")
 }

@@ -3,7 +3,7 @@ use blocks::Blocks;
 use blocks::get_blocks;
 use hex_length::hex_length;
 use hex_length::too_high;
-use hex_records::write_hex;
+use hex_text::write_hex;
 use outcome::Export;
 ghost use mathlib.Core.Path.{_≡_};
 ghost use mathlib.Core.Bool.{false};

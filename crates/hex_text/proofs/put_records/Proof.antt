@@ -1,4 +1,4 @@
--- `hex_records::put_block` meets its contract: after n turns n records are written.
+-- `hex_text::put_records` meets its contract: after n turns n records are written.
 -- Assumes nothing.
 use mathlib.Core.Path.{_≡_, refl, sym, ap, _∙_}
 use mathlib.Core.List.{List}
@@ -12,13 +12,13 @@ use Rattle.output.specs.Writes.{Writes}
 use Rattle.output.proofs.Pieces.{pieces-none, pieces-next, pieces-room}
 use Rattle.output.proofs.Writes.{writes-nothing, writes-then}
 use Rattle.blocks.specs.Blocks.{Block}
 use Rattle.hex_records.specs.Plan.{Chunk, chunkAt}
 use Rattle.hex_records.specs.Text.{recordText}
 use Rattle.hex_records.proofs.Text.{record-length}
 use Rattle.hex_records.proofs.Plan.{block-pieces, block-each}
 use borrow.Author.Needs.{needs}
-use Rattle.hex_records.proofs.put_block.Statement.{statement}
-use Rattle.hex_records.proofs.put_block.Tie as tie
+use Rattle.hex_text.proofs.put_records.Statement.{statement}
+use Rattle.hex_text.proofs.put_records.Tie as tie
 
 abbrev Inv-loop : tie.InvT-loop
 Inv-loop bytes len offset size unit out₀ at count records next₀ n₀ out next n =
@@ -117,8 +117,8 @@ returns c =
     let done : l .n ≡ ceilDiv (ceilDiv (a .size) 8) 32 = rw (← c .before .before .before .parts .ensures, ← c .before .before .parts2 .ensures) (omega arith) in
     rw (block-pieces (a .bytes .now) (a .len) (a .unit) b, ← done) (l .inv .1)
 
-pub put-block-spec : {M : Type 1} → statement M
-put-block-spec =
+pub put-records-spec : {M : Type 1} → statement M
+put-records-spec =
     tie.close
     (tie.spec
     Inv-loop

@@ -1,0 +1,17 @@
+-- `hex_text::address_of` meets its contract: both quotients are by the unit.
+-- Assumes nothing.
+use borrow.Author.Needs.{needs}
+use Rattle.hex_text.proofs.address_of.Statement.{statement}
+use Rattle.hex_text.proofs.address_of.Tie as tie
+
+returns : tie.Need-returns
+returns c = rw (c .if1 .taken)
+
+address-requires : tie.Need-address-requires
+address-requires c κs = search needs
+
+returns-2 : tie.Need-returns-2
+returns-2 c = search needs
+
+pub address-of-spec : {M : Type 1} → statement M
+address-of-spec = tie.close (tie.spec returns address-requires returns-2)
