@@ -1,6 +1,6 @@
 -- Chunks of whole bytes that make lines of 16 bytes are rows of bytes.
 -- Assumes nothing.
-use mathlib.Core.Path.{_≡_, refl, sym, ap, _∙_}
+use mathlib.Core.Path.{_≡_, sym, ap, _∙_}
 use mathlib.Core.List.{List, [], _++_, append-assoc}
 use Prim.Native.Nat.{ℕ, _+_, _-_, _*_, _/_, _%_, _<_, _≤_, min}
 use native.Mathlib.Omega.{arith}
@@ -29,11 +29,11 @@ bytes-line bytes len i m =
     let digits : m * 8 / 4 ≡ m * 2 = omega arith in
     rw (start, short, digits) (sym (bytes-run Hex bytes len i m))
 
-every-none : (k : ℕ) (t : List ℕ) → 0 < k % 16 → every 16 k t ≡ []
+pub every-none : (k : ℕ) (t : List ℕ) → 0 < k % 16 → every 16 k t ≡ []
 unfolding every
 every-none k t h = simp (ne-eqb (k % 16) 0 (λ z. absurd (omega arith)))
 
-every-whole : (k : ℕ) (t : List ℕ) → k % 16 ≡ 0 → every 16 k t ≡ t
+pub every-whole : (k : ℕ) (t : List ℕ) → k % 16 ≡ 0 → every 16 k t ≡ t
 unfolding every
 every-whole k t e = simp (eq-eqb (k % 16) 0 e)
 

@@ -1,1 +1,2 @@
 pub mod Logisim
+pub mod Short

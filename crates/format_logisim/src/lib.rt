@@ -6,12 +6,16 @@ ghost use mathlib.Core.List.{List};
 ghost use Prim.Native.Nat.{ℕ, _+_, _-_, _*_, _/_, _%_, _≤_, _<_, _^_};
 ghost use lib.Dec.{eqb};
 ghost use lib.ListN.{length};
+ghost use Rattle.bitvec.specs.Bits.{byteAt};
 ghost use Rattle.bitvec.specs.Size.{ceilDiv};
 ghost use Rattle.output.specs.Pieces.{pieces};
 ghost use Rattle.output.specs.Writes.{Writes};
 ghost use Rattle.outcome.specs.Outcome.{Exports};
+ghost use Rattle.rows.specs.Rows.{wordBytes};
 ghost use Rattle.format_logisim.specs.Logisim.{chunkText, chunkAt, breaks, perLine, logisimText, logisimOutcome};
+ghost use Rattle.format_logisim.specs.Short.{spacedDigits, brokenDigits, byteChunks, wholeChunks};
 use bitvec::BitOffset;
+use numbers::Letters;
 use outcome::Export;
 use rows::ByteDigits;
 
@@ -152,6 +156,73 @@ fn put_lines(
     next
 }
 
+// Four bits as binary digits with a space behind each, one character in each byte of a word, the first
+// highest. The mask lets through four bits that are never set, so that the compiler does not know the
+// spaces and stores the word at once.
+fn spaced_word(bits: u8) -> u64
+    requires { ⌜ bits < 16 ⌝ }
+    ensures { λ r. ⌜ wordBytes r ≡ spacedDigits 1 4 bits ⌝ }
+{
+    let spread = bits as u64 * 0x20_0040_0080_0101;
+    (spread & 0x110_0110_0110_0110) | 0x3020_3020_3020_3020
+}
+
+// Stores the bits of byte `j` with a space behind each. The byte is read for each word, which keeps the
+// stores of the two apart, and the compiler joins those of each.
+fn put_spaced(out: &mut [u8], at: usize, image: &[u8], bits: usize, j: usize) -> usize
+    requires inside { ⌜ (j * 8 + 8 ≤ bits) × (j < length (now image)) ⌝ }
+    requires room { ⌜ at + 16 ≤ length (now out) ⌝ }
+    ensures { λ r. ⌜ Writes (spacedDigits 1 8 (byteAt (now (image .entry)) bits j)) (now (out .entry)) at (now (out .exit)) r ⌝ }
+{
+    let next = rows::put_word(out, at, spaced_word(image[j] / 16));
+    rows::put_word(out, next, spaced_word(image[j] % 16))
+}
+
+// Stores the bits of a byte that begins a line, with a newline behind each but the last.
+fn put_broken(out: &mut [u8], at: usize, byte: u8) -> usize
+    requires { ⌜ at + 23 ≤ length (now out) ⌝ }
+    ensures { λ r. ⌜ Writes (brokenDigits 1 8 byte) (now (out .entry)) at (now (out .exit)) r ⌝ }
+{
+    let mut next = at;
+    for k in 0..7 {
+        let behind: usize = 7 - k;
+        let digit = (byte >> behind as u8) % 2;
+        next = output::put(out, next, numbers::digit_char(Letters::Lower, digit));
+        next = output::put(out, next, b' ');
+        next = output::put(out, next, b'\n');
+    }
+    next = output::put(out, next, numbers::digit_char(Letters::Lower, byte % 2));
+    output::put(out, next, b' ')
+}
+
+// Stores byte `j` in chunks of one bit.
+fn put_byte_bits(out: &mut [u8], at: usize, image: &[u8], bits: usize, j: usize) -> usize
+    requires inside { ⌜ (j * 8 + 8 ≤ bits) × (j < length (now image)) ⌝ }
+    requires room { ⌜ at + length (byteChunks (now image) bits 1 8 j) ≤ length (now out) ⌝ }
+    ensures { λ r. ⌜ Writes (byteChunks (now (image .entry)) bits 1 8 j) (now (out .entry)) at (now (out .exit)) r ⌝ }
+{
+    if j % 16 == 0 {
+        return put_broken(out, at, image[j]);
+    }
+    let next = put_spaced(out, at, image, bits, j);
+    output::put_every(out, next, 16, j + 1, b'\n')
+}
+
+// Stores the first `count` bytes in chunks of one bit.
+fn put_bits(out: &mut [u8], at: usize, image: &[u8], bits: usize, count: usize) -> usize
+    requires inside { ⌜ (count * 8 ≤ bits) × (bits ≤ 8 * length (now image)) ⌝ }
+    requires room { ⌜ at + length (pieces (chunkAt (now image) bits 1) (count * 8)) ≤ length (now out) ⌝ }
+    ensures { λ r. ⌜ Writes (pieces (chunkAt (now (image .entry)) bits 1) (count * 8)) (now (out .entry)) at (now (out .exit)) r ⌝ }
+{
+    let mut next = at;
+    let mut j = 0;
+    while j < count {
+        next = put_byte_bits(out, next, image, bits, j);
+        j += 1;
+    }
+    next
+}
+
 // How many chunks make a line of 16 bytes, where they are short and of whole bytes. Longer chunks are
 // as fast one by one.
 fn per_line(width: usize) -> usize
@@ -166,19 +237,27 @@ fn per_line(width: usize) -> usize
     if width == 32 { 4 } else { 0 }
 }
 
-// Stores `lines` lines of 16 whole bytes of the image, where chunks of `width` bits make such lines.
-fn put_whole(
-    out: &mut [u8],
-    at: usize,
-    image: &[u8],
-    bits: usize,
-    width: usize,
-    lines: usize,
-) -> usize
-    requires inside { ⌜ (lines * 128 ≤ bits) × (bits ≤ 8 * length (now image)) ⌝ }
-    requires room { ⌜ at + length (pieces (chunkAt (now image) bits width) (lines * perLine width)) ≤ length (now out) ⌝ }
-    ensures { λ r. ⌜ Writes (pieces (chunkAt (now (image .entry)) bits width) (lines * perLine width)) (now (out .entry)) at (now (out .exit)) r ⌝ }
+// How many chunks are written by bytes or by lines.
+fn whole_chunks(bits: usize, width: usize) -> usize
+    requires { ⌜ bits ≤ 16777216 ⌝ }
+    ensures { λ r. ⌜ (r ≡ wholeChunks bits width) × (r * width ≤ bits) ⌝ }
 {
+    if width == 1 {
+        return bits / 8 * 8;
+    }
+    bits / 128 * per_line(width)
+}
+
+// Stores these chunks.
+fn put_whole(out: &mut [u8], at: usize, image: &[u8], bits: usize, width: usize) -> usize
+    requires inside { ⌜ bits ≤ 8 * length (now image) ⌝ }
+    requires room { ⌜ at + length (pieces (chunkAt (now image) bits width) (wholeChunks bits width)) ≤ length (now out) ⌝ }
+    ensures { λ r. ⌜ Writes (pieces (chunkAt (now (image .entry)) bits width) (wholeChunks bits width)) (now (out .entry)) at (now (out .exit)) r ⌝ }
+{
+    let lines = bits / 128;
+    if width == 1 {
+        return put_bits(out, at, image, bits, bits / 8);
+    }
     if width == 8 {
         return put_lines(out, at, image, bits, 1, 16, lines);
     }
@@ -191,16 +270,15 @@ fn put_whole(
     at
 }
 
-// Stores the file, of `chunks` chunks: those that make lines of 16 whole bytes, and then the others.
+// Stores the file, of `chunks` chunks: those that go by bytes or by lines, and then the others.
 fn write_logisim(image: &[u8], bits: usize, width: usize, chunks: usize, out: &mut [u8]) -> usize
     requires size { ⌜ (0 < width) × (width ≤ 4096) × (bits ≤ 16777216) × (bits ≤ 8 * length (now image)) × (chunks ≡ ceilDiv bits width) ⌝ }
     requires room { ⌜ length (logisimText (now image) bits width) ≤ length (now out) ⌝ }
     ensures { λ r. ⌜ Writes (logisimText (now (image .entry)) bits width) (now (out .entry)) 0 (now (out .exit)) r ⌝ }
 {
-    let lines = bits / 128;
-    let whole = lines * per_line(width);
+    let whole = whole_chunks(bits, width);
     let mut next = output::put_all(out, 0, b"v2.0 raw\n");
-    next = put_whole(out, next, image, bits, width, lines);
+    next = put_whole(out, next, image, bits, width);
     put_chunks(out, next, image, bits, width, whole, chunks)
 }
 

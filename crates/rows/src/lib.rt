@@ -27,7 +27,7 @@ fn digit_word(byte: u8) -> u64
 }
 
 // Stores the eight bytes of a word, the highest first.
-fn put_word(out: &mut [u8], at: usize, word: u64) -> usize
+pub fn put_word(out: &mut [u8], at: usize, word: u64) -> usize
     requires { ⌜ at + 8 ≤ length (now out) ⌝ }
     ensures { λ r. ⌜ Writes (wordBytes word) (now (out .entry)) at (now (out .exit)) r ⌝ }
 {

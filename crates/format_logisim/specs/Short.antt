@@ -1,0 +1,30 @@
+-- Chunks of one bit, byte by byte, and which chunks the exporter writes so or by lines: how it goes about the text that `Logisim` defines.
+use mathlib.Core.Bool.{cond}
+use mathlib.Core.List.{List, _∷_, _++_}
+use Prim.Native.Nat.{ℕ, _-_, _+_, _*_, _/_, _%_, _^_}
+use lib.Dec.{eqb}
+use Rattle.output.specs.Ascii.{ascii}
+use Rattle.output.specs.Pieces.{pieces}
+use Rattle.numbers.specs.declared.Letters.the-variants.{Lower}
+use Rattle.numbers.specs.Digits.{digitChar}
+use Rattle.format_logisim.specs.Logisim.{chunkAt, perLine}
+
+-- Digit k of the m digits of w bits each that a number is written with.
+unfoldable pub digitOf : ℕ → ℕ → ℕ → ℕ → ℕ
+digitOf w m v k = digitChar Lower (v / 2 ^ ((m - 1 - k) * w) % 2 ^ w)
+
+-- These digits with a space behind each.
+unfoldable pub spacedDigits : ℕ → ℕ → ℕ → List ℕ
+spacedDigits w m v = pieces (λ k. digitOf w m v k ∷ ascii " ") m
+
+-- The same, and a newline behind each space but the last.
+unfoldable pub brokenDigits : ℕ → ℕ → ℕ → List ℕ
+brokenDigits w m v = pieces (λ k. digitOf w m v k ∷ ascii " \n") (m - 1) ++ (digitOf w m v (m - 1) ∷ ascii " ")
+
+-- The chunks of byte j, where m chunks of w bits make a byte.
+unfoldable pub byteChunks : List ℕ → ℕ → ℕ → ℕ → ℕ → List ℕ
+byteChunks bytes len w m j = pieces (λ k. chunkAt bytes len w (j * m + k)) m
+
+-- How many chunks are written by bytes or by lines: those of one bit by bytes.
+unfoldable pub wholeChunks : ℕ → ℕ → ℕ
+wholeChunks len width = cond (eqb width 1) (len / 8 * 8) (len / 128 * perLine width)
