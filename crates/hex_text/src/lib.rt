@@ -102,15 +102,15 @@ fn put_single(
     put(out, end, b'\n')
 }
 
-// The address of a bit: units of a byte need no division.
-fn address_of(from: usize, unit: usize) -> UnitAddress
+// The address of a bit: that of a unit of 8 bits needs no division.
+fn address_of(from: BitOffset, unit: usize) -> UnitAddress
     requires { ⌜ 0 < unit ⌝ }
-    ensures { λ r. ⌜ r .0 ≡ from / unit ⌝ }
+    ensures { λ r. ⌜ r .0 ≡ from .0 / unit ⌝ }
 {
     if unit == 8 {
-        return UnitAddress(from / 8);
+        return from.address(8);
     }
-    BitOffset(from).address(unit)
+    from.address(unit)
 }
 
 // A number below which each offset is that of a byte that is in the image with a byte behind it.
@@ -189,7 +189,7 @@ fn put_block(
     ensures { λ r. ⌜ Writes (flatMap (recordText (now (bytes .entry)) len) (blockPlan unit (record { offset = offset; size = size }))) (now (out .entry)) at (now (out .exit)) r ⌝ }
 {
     if is_single(limit, offset, size) {
-        let address = address_of(offset, unit);
+        let address = address_of(BitOffset(offset), unit);
         return put_single(bytes, len, BitOffset(offset), address, pairs, out, at);
     }
     put_records(bytes, len, offset, size, unit, out, at)
