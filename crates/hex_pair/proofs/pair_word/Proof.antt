@@ -1,0 +1,48 @@
+-- `hex_pair::pair_word` meets its contract: what the code computes of the two bytes is what it computes of each.
+-- Assumes nothing.
+use mathlib.Core.Path.{ap, _∙_}
+use native.Mathlib.Omega.{arith}
+use borrow.Author.Needs.{needs}
+use Rattle.hex_pair.specs.Pair.{fourBytes}
+use Rattle.hex_pair.proofs.Lanes.{half-small, letter-small, halves, letters, word, digits}
+use Rattle.hex_pair.proofs.pair_word.Statement.{statement}
+use Rattle.hex_pair.proofs.pair_word.Tie as tie
+
+mul-bytes : tie.Need-mul-bytes
+mul-bytes c = search needs
+
+add-bytes : tie.Need-add-bytes
+add-bytes c = search needs
+
+add-letters : tie.Need-add-letters
+add-letters c =
+    let f = c .args .first in
+    let g = c .args .second in
+    record { fits = rw (halves f g (omega arith) (omega arith)) (omega (arith, half-small f, half-small g)) }
+
+add-result : tie.Need-add-result
+add-result c =
+    let f = c .args .first in
+    let g = c .args .second in
+    record { fits = rw (halves f g (omega arith) (omega arith)) (omega (arith, half-small f, half-small g)) }
+
+mul-result : tie.Need-mul-result
+mul-result c =
+    let f = c .args .first in
+    let g = c .args .second in
+    record { fits = rw (halves f g (omega arith) (omega arith), letters f g) (omega (arith, letter-small f, letter-small g)) }
+
+add-result-2 : tie.Need-add-result-2
+add-result-2 c =
+    let f = c .args .first in
+    let g = c .args .second in
+    record { fits = rw (halves f g (omega arith) (omega arith), letters f g) (omega (arith, half-small f, half-small g, letter-small f, letter-small g)) }
+
+returns : tie.Need-returns
+returns c =
+    let f = c .args .first in
+    let g = c .args .second in
+    rw (halves f g (omega arith) (omega arith), letters f g) (ap fourBytes (word f g) ∙ digits f g (omega arith) (omega arith))
+
+pub pair-word-spec : {M : Type 1} → statement M
+pair-word-spec = tie.close (tie.spec mul-bytes add-bytes add-letters add-result mul-result add-result-2 returns)
