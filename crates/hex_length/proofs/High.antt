@@ -19,7 +19,7 @@ use Rattle.blocks.specs.Blocks.{Block}
 use Rattle.hex_records.specs.Plan.{Chunk, blockBytes, chunkAt, blockPlan, hexPlan, tooHigh, blocksAt}
 use Rattle.ordering.proofs.Flat.{flat-append, flat-one}
 use Rattle.hex_records.proofs.Plan.{blockAt, flat-each}
-use Rattle.hex_length.specs.AtMost.{AtMost}
+use Rattle.span_range.specs.AtMost.{AtMost}
 
 -- The address fits.
 abbrev pub Low : Chunk → Type 0

@@ -1,3 +1,2 @@
 mod Lengths
-mod Bits
 pub mod High

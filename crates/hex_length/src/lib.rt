@@ -2,6 +2,7 @@
 // does not fit.
 use bitvec::BitOffset;
 use bitvec::parts;
+use span_range::joined;
 ghost use mathlib.Core.Path.{_≡_};
 ghost use mathlib.Core.Bool.{true, false};
 ghost use mathlib.Core.List.{List};
@@ -10,7 +11,6 @@ ghost use lib.ListN.{length};
 ghost use Rattle.bitvec.specs.Size.{ceilDiv};
 ghost use Rattle.hex_records.specs.Plan.{blockPlan, hexPlan, tooHigh, blocksAt};
 ghost use Rattle.hex_records.specs.Text.{hexText};
-ghost use Rattle.hex_length.specs.AtMost.{AtMost};
 
 // The length of the records of a block: 12 characters for each, and 2 for each byte.
 fn block_length(size: usize) -> usize
@@ -43,18 +43,6 @@ fn block_high(offset: usize, size: usize, unit: usize) -> bool
         return false;
     }
     65535 < BitOffset(offset + 256 * (records - 1)).address(unit).0
-}
-
-// A number that no offset and no size is above: the bits of all of them.
-fn joined(offsets: &[u32], sizes: &[u32]) -> u32
-    requires { ⌜ length (now offsets) ≡ length (now sizes) ⌝ }
-    ensures { λ r. ⌜ ((k : ℕ) → k < length (now (offsets .entry)) → AtMost (now (offsets .entry)) (now (sizes .entry)) r k) ⌝ }
-{
-    let mut all: u32 = 0;
-    for k in 0..offsets.len() {
-        all = all | offsets[k] | sizes[k];
-    }
-    all
 }
 
 // Whether no offset and no size is near the highest address, so that no block need be looked at.

@@ -1,14 +1,14 @@
--- `hex_length::joined` meets its contract: after k turns no number of the first k blocks is above.
+-- `span_range::joined` meets its contract: after k turns no number of the first k spans is above.
 -- Assumes nothing.
 use Prim.Native.Nat.{ℕ, _-_, _≤_, _<_}
 use native.Mathlib.Omega.{arith}
 use lib.ListN.{length}
 use borrow.Author.Count.{below-none}
-use Rattle.hex_length.specs.AtMost.{AtMost}
-use Rattle.hex_length.proofs.Bits.{joined-more}
+use Rattle.span_range.specs.AtMost.{AtMost}
+use Rattle.span_range.proofs.Bits.{joined-more}
 use borrow.Author.Needs.{needs}
-use Rattle.hex_length.proofs.joined.Statement.{statement}
-use Rattle.hex_length.proofs.joined.Tie as tie
+use Rattle.span_range.proofs.joined.Statement.{statement}
+use Rattle.span_range.proofs.joined.Tie as tie
 
 abbrev Inv-loop : tie.InvT-loop
 Inv-loop offsets sizes all₀ k₀ k-end all k = (k ≤ length offsets) × ((j : ℕ) → j < k → AtMost offsets sizes all j)
