@@ -1,2 +1,1 @@
 mod Straight
-mod Checked
