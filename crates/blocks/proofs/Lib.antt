@@ -1,3 +1,4 @@
 pub mod Running
 mod Closing
 pub mod Finding
+mod Adjoining

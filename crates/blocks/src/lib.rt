@@ -1,6 +1,7 @@
 // The blocks of a span list (document 01, module 7): the spans in order make blocks, which are closed
 // one after the other. Spans are lent as two slices of numbers, the offsets, with 4294967295 for an
 // absent one, and the sizes.
+use adjoining::all_adjoin;
 use ordering::ABSENT;
 use span_order::order;
 use span_order::order_few;
@@ -14,6 +15,7 @@ ghost use Prim.Native.Nat.{_+_, _≤_, _<_};
 ghost use lib.ListN.{length};
 ghost use lib.Seq.{sets};
 ghost use Rattle.ordering.specs.Order.{inOrder};
+ghost use Rattle.adjoining.specs.Adjoin.{Adjoin};
 ghost use Rattle.span_range.specs.Range.{longList, faultAt};
 ghost use Rattle.blocks.specs.Blocks.{closed, blocksOf, blocksFound, Finds};
 
@@ -136,8 +138,28 @@ fn find_many(
     close_all(offsets, sizes, &places[..n], block_offsets, block_sizes)
 }
 
+// The block of good spans that adjoin.
+fn one_block(
+    offsets: &[u32],
+    sizes: &[u32],
+    block_offsets: &mut [u32],
+    block_sizes: &mut [u32],
+) -> usize
+    requires lent { ⌜ (length (now offsets) ≡ length (now sizes)) × Adjoin (now offsets) (now sizes) ⌝ }
+    requires good { ⌜ faultAt (now offsets) (now sizes) ≡ length (now offsets) ⌝ }
+    requires room { ⌜ (length (now offsets) ≤ length (now «block_offsets»)) × (length (now offsets) ≤ length (now «block_sizes»)) ⌝ }
+    ensures counted { λ r. ⌜ r ≡ length (blocksOf (now (offsets .entry)) (now (sizes .entry))) ⌝ }
+    ensures offsets { λ _. ⌜ now («block_offsets» .exit) ≡ sets (now («block_offsets» .entry)) 0 (map (λ b. b .offset) (blocksOf (now (offsets .entry)) (now (sizes .entry)))) ⌝ }
+    ensures sizes { λ _. ⌜ now («block_sizes» .exit) ≡ sets (now («block_sizes» .entry)) 0 (map (λ b. b .size) (blocksOf (now (offsets .entry)) (now (sizes .entry)))) ⌝ }
+{
+    let last = offsets.len() - 1;
+    let origin = offsets[0];
+    let size = offsets[last] + sizes[last] - origin;
+    close(origin, size, 0, block_offsets, block_sizes)
+}
+
 // Orders good spans and makes their blocks.
-fn find_blocks(
+fn find_ordered(
     offsets: &[u32],
     sizes: &[u32],
     block_offsets: &mut [u32],
@@ -154,6 +176,26 @@ fn find_blocks(
         return find_few(offsets, sizes, block_offsets, block_sizes);
     }
     find_many(offsets, sizes, block_offsets, block_sizes)
+}
+
+// Makes the blocks of good spans: those that adjoin need not be ordered.
+fn find_blocks(
+    offsets: &[u32],
+    sizes: &[u32],
+    block_offsets: &mut [u32],
+    block_sizes: &mut [u32],
+) -> usize
+    requires lent { ⌜ (length (now offsets) ≤ 4096) × (length (now offsets) ≡ length (now sizes)) ⌝ }
+    requires good { ⌜ faultAt (now offsets) (now sizes) ≡ length (now offsets) ⌝ }
+    requires room { ⌜ (length (now offsets) ≤ length (now «block_offsets»)) × (length (now offsets) ≤ length (now «block_sizes»)) ⌝ }
+    ensures counted { λ r. ⌜ r ≡ length (blocksOf (now (offsets .entry)) (now (sizes .entry))) ⌝ }
+    ensures offsets { λ _. ⌜ now («block_offsets» .exit) ≡ sets (now («block_offsets» .entry)) 0 (map (λ b. b .offset) (blocksOf (now (offsets .entry)) (now (sizes .entry)))) ⌝ }
+    ensures sizes { λ _. ⌜ now («block_sizes» .exit) ≡ sets (now («block_sizes» .entry)) 0 (map (λ b. b .size) (blocksOf (now (offsets .entry)) (now (sizes .entry)))) ⌝ }
+{
+    if all_adjoin(offsets, sizes) {
+        return one_block(offsets, sizes, block_offsets, block_sizes);
+    }
+    find_ordered(offsets, sizes, block_offsets, block_sizes)
 }
 
 // Copies numbers to the front of others.

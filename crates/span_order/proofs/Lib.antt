@@ -1,1 +1,1 @@
-mod Straight
+pub mod Straight
