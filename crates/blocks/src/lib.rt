@@ -50,7 +50,8 @@ fn close(
 
 // The blocks of good spans whose places are given in order, at the fronts of two slices with a place
 // for each span. Before the first span a block of size 0 at offset 0 is running, which makes no
-// difference: a span at offset 0 joins it as it would open a block, and any other drops it.
+// difference: a span at offset 0 joins it as it would open a block, and any other drops it. No block
+// ends where an absent offset would be, so that a span which joins need not be tested for it.
 fn close_all(
     offsets: &[u32],
     sizes: &[u32],
@@ -71,14 +72,12 @@ fn close_all(
     for k in 0..places.len() {
         let place = places[k] as usize;
         let offset = offsets[place];
-        if offset != ABSENT {
-            if offset == origin + size {
-                size = size + sizes[place];
-            } else {
-                count = close(origin, size, count, block_offsets, block_sizes);
-                origin = offset;
-                size = sizes[place];
-            }
+        if offset == origin + size {
+            size = size + sizes[place];
+        } else if offset != ABSENT {
+            count = close(origin, size, count, block_offsets, block_sizes);
+            origin = offset;
+            size = sizes[place];
         }
     }
     close(origin, size, count, block_offsets, block_sizes)

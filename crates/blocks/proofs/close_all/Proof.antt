@@ -1,7 +1,7 @@
 -- `blocks::close_all` meets its contract: at each turn the pass goes on as its definition says (proofs/Closing).
 -- Assumes nothing.
 use mathlib.Core.Path.{_≡_, refl, _∙_, subst}
-use mathlib.Core.Logic.{⊎-elim}
+use mathlib.Core.Logic.{_≢_, ⊎-elim}
 use mathlib.Core.List.{List, [], _∷_}
 use Prim.Native.Nat.{ℕ, _+_, _-_, _≤_, _<_}
 use native.Mathlib.Numerals.{add-one}
@@ -9,6 +9,7 @@ use native.Mathlib.Omega.{arith}
 use lib.ListN.{length, getD, drop}
 use lib.Seq.{drop-cons, drop-length}
 use Rattle.bitvec.specs.Size.{maxBits}
+use Rattle.ordering.specs.Order.{absent}
 use Rattle.blocks.specs.Blocks.{blocksOf}
 use Rattle.ordering.proofs.Lists.{each-get}
 use Rattle.ordering.proofs.Keys.{inOrder-below}
@@ -55,13 +56,22 @@ now-at c =
     (l .inv .1)
 
 -- A span of this turn that has an offset ends within the largest image.
-good : (c : tie.Then1 Inv-loop μ-loop) →
-    let a = c .before .before .before .before .before .before .before .before .before .before .args in
-    let p = getD (a .places .now) (c .before .before .before .before .loop .k) 0 in
-    getD (a .offsets .now) p 0 + getD (a .sizes .now) p 0 ≤ maxBits
-good c =
-    let a = c .before .before .before .before .before .before .before .before .before .before .args in
-    good-span (a .offsets .now) (a .sizes .now) (c .before .before .before .before .before .before .before .before .before .before .pre .1 .0) (getD (a .places .now) (c .before .before .before .before .loop .k) 0) (below (c .before .before .before)) (c .if1 .taken)
+good : (c : tie.In-loop Inv-loop μ-loop) →
+    let a = c .before .before .before .before .before .before .before .args in
+    let p = getD (a .places .now) (c .before .loop .k) 0 in
+    getD (a .offsets .now) p 0 ≢ absent → getD (a .offsets .now) p 0 + getD (a .sizes .now) p 0 ≤ maxBits
+good c n =
+    let start = c .before .before .before .before .before .before .before in
+    let a = start .args in
+    good-span (a .offsets .now) (a .sizes .now) (start .pre .1 .0) (getD (a .places .now) (c .before .loop .k) 0) (below c) n
+
+-- A span that joins the running block has an offset, since that block ends within the largest image.
+has-offset : (c : tie.In-loop Inv-loop μ-loop) →
+    let a = c .before .before .before .before .before .before .before .args in
+    let l = c .before .loop in
+    getD (a .offsets .now) (getD (a .places .now) (l .k) 0) 0 ≡ l .origin + l .size
+    → getD (a .offsets .now) (getD (a .places .now) (l .k) 0) 0 ≢ absent
+has-offset c e = λ d. omega (arith, e, d, c .before .loop .inv .1 .ends)
 
 -- There are no more blocks than either slice has places.
 enough : (c : tie.In-loop Inv-loop μ-loop) →
@@ -88,20 +98,25 @@ mul-offset c = search (below (c .before), needs)
 shared-slice-read-offset : tie.Need-shared-slice-read-offset Inv-loop μ-loop
 shared-slice-read-offset c = below (c .before .before)
 
-add-if2 : tie.Need-add-if2 Inv-loop μ-loop
-add-if2 c = record { fits = omega (arith, c .before .before .before .before .loop .inv .1 .ends) }
+add-if1 : tie.Need-add-if1 Inv-loop μ-loop
+add-if1 c = record { fits = omega (arith, c .before .before .before .loop .inv .1 .ends) }
 
 mul-size : tie.Need-mul-size Inv-loop μ-loop
-mul-size c = search (below (c .before .before .before .before), needs)
+mul-size c = search (below (c .before .before .before), needs)
 
 shared-slice-read-size : tie.Need-shared-slice-read-size Inv-loop μ-loop
-shared-slice-read-size c = omega (arith, below (c .before .before .before .before .before), c .before .before .before .before .before .before .before .before .before .before .before .before .pre .0 .0)
+shared-slice-read-size c = omega (arith, below (c .before .before .before .before), c .before .before .before .before .before .before .before .before .before .before .before .pre .0 .0)
 
 add-size : tie.Need-add-size Inv-loop μ-loop
-add-size c = record { fits = omega (arith, good (c .before .before), c .before .if2 .taken) }
+add-size c =
+    let turn = c .before .before .before .before in
+    let e = c .before .if1 .taken in
+    record { fits = omega (arith, good turn (has-offset turn e), e) }
 
 close-requires : tie.Need-close-requires Inv-loop μ-loop
-close-requires c κs = λ z. enough (c .before .before .before .before .before .before) (closing-room (now-at (c .before .before .before .before .before .before)) (c .before .before .before .if1 .taken) (c .before .before .if2 .left) z)
+close-requires c κs = λ z.
+    let turn = c .before .before .before .before .before .before in
+    enough turn (closing-room (now-at turn) (c .before .before .if2 .taken) (c .before .before .before .if1 .left) z)
 
 mul-size-2 : tie.Need-mul-size-2 Inv-loop μ-loop
 mul-size-2 c = search (below (c .before .before .before .before .before .before .before .before .before .before .before), needs)
@@ -120,26 +135,27 @@ loop-again c =
     let turn = c .before .before .before in
     ⊎-elim
     (λ w.
-    let h = good (record { before = c .before; if1 = w .0 }) in (
+    let e = w .0 .taken in
+    let n = has-offset turn e in (
       search needs,
-      rw (w .3, w .4, w .5, w .6, w .7) (closing-joins (now-at turn) (w .0 .taken) h (w .1 .taken)),
-      rw (w .3) (turn .before .loop .inv .2),
-      rw (w .4) (turn .before .loop .inv .3),
+      rw (w .2, w .3, w .4, w .5, w .6) (closing-joins (now-at turn) n (good turn n) e),
+      rw (w .2) (turn .before .loop .inv .2),
+      rw (w .3) (turn .before .loop .inv .3),
     ))
     (⊎-elim
     (λ w.
-    let h = good (record { before = c .before; if1 = w .0 }) in
+    let n = w .1 .taken in
     let e = w .4 .ensures in (
       search needs,
-      rw (w .10, w .11, w .12, w .13, w .14, e .0) (closing-closes (now-at turn) (w .0 .taken) h (w .1 .left) (e .1 .0) (e .1 .1)),
+      rw (w .10, w .11, w .12, w .13, w .14, e .0) (closing-closes (now-at turn) n (good turn n) (w .0 .left) (e .1 .0) (e .1 .1)),
       rw (w .10) (w .4 .kept .1 .1 .1 .0 ∙ turn .before .loop .inv .2),
       rw (w .11) (w .4 .kept .1 .1 .1 .1 .0 ∙ turn .before .loop .inv .3),
     ))
     (λ w. (
       search needs,
-      rw (w .1, w .2, w .3, w .4, w .5) (closing-absent (now-at turn) (w .0 .left)),
-      rw (w .1) (turn .before .loop .inv .2),
-      rw (w .2) (turn .before .loop .inv .3),
+      rw (w .2, w .3, w .4, w .5, w .6) (closing-absent (now-at turn) (w .1 .left)),
+      rw (w .2) (turn .before .loop .inv .2),
+      rw (w .3) (turn .before .loop .inv .3),
     )))
     (c .if1 .came)
 
@@ -188,7 +204,7 @@ close-all-spec =
     cast-place
     mul-offset
     shared-slice-read-offset
-    add-if2
+    add-if1
     mul-size
     shared-slice-read-size
     add-size
