@@ -136,3 +136,19 @@ pub fn limit(case: &Case, times: [f64; 2]) {
         limit::TARGET
     );
 }
+
+/// Prints the line of plain copies, which says how the memory's own time grows.
+pub fn copies(cases: &[Case], times: &[f64]) {
+    let mut last = None;
+    let mut parts = Vec::new();
+    for (case, &time) in cases.iter().zip(times) {
+        let mut part = format!("{} {:.3}", case.size_name(), time / case.divisor());
+        if let Some(last) = last {
+            part += &format!(" (growth {:.2})", growth(last, (case.size(), time)));
+        }
+        parts.push(part);
+        last = Some((case.size(), time));
+    }
+    let Case { exporter, alignment, .. } = &cases[0];
+    println!("limit: {}, {alignment}: a plain copy takes {}", exporter.name, parts.join(", "));
+}
