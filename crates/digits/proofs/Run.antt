@@ -16,11 +16,11 @@ use Rattle.bitvec.specs.Bits.{bitsAt, byteAt}
 use Rattle.bitvec.proofs.Bits.{bits-small}
 use Rattle.bitvec.proofs.Words.{bits-within, bits-cut}
 use Rattle.numbers.specs.declared.Letters.the-variants.{Lower}
-use Rattle.numbers.specs.Digits.{digitChar, byteText}
+use Rattle.numbers.specs.Digits.{digitChar, byteText, digitsOf}
 use Rattle.rows.proofs.Rows.{stride}
 use Rattle.rows.specs.declared.ByteDigits.{ByteDigits}
 use Rattle.rows.specs.declared.ByteDigits.the-variants.{Binary, Hex}
-use Rattle.rows.specs.Rows.{digitsOf, perByte, digitBits, byteDigits, bytesText}
+use Rattle.rows.specs.Rows.{perByte, digitBits, byteDigits, bytesText}
 use Rattle.digits.specs.Run.{digitAt, run, shortDigit, hexLine}
 
 pub run-none : (bytes : List ℕ) (len w i : ℕ) → run bytes len w i 0 ≡ []

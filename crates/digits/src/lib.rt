@@ -7,7 +7,8 @@ ghost use Prim.Native.Nat.{_+_, _*_, _/_, _%_, _≤_, _<_, _^_, min};
 ghost use lib.Dec.{eqb};
 ghost use lib.ListN.{length};
 ghost use Rattle.output.specs.Writes.{Writes};
-ghost use Rattle.rows.specs.Rows.{digitsOf, perByte, digitBits};
+ghost use Rattle.numbers.specs.Digits.{digitsOf};
+ghost use Rattle.rows.specs.Rows.{perByte, digitBits};
 ghost use Rattle.digits.specs.Base.{baseBits};
 ghost use Rattle.digits.specs.Run.{digitAt, run, shortDigit, hexLine};
 use bitvec::BitOffset;
@@ -102,7 +103,7 @@ fn put_eights(
     let mut k = 0;
     while 7 < count - k {
         let byte = bitvec::read_byte(bytes, len, BitOffset(offset));
-        next = rows::put_bits(out, next, byte);
+        next = eight_chars::put_bits(out, next, byte);
         offset += 8;
         k += 8;
     }

@@ -12,9 +12,10 @@ use Rattle.output.specs.Ascii.{ascii}
 use Rattle.output.specs.Pieces.{pieces, leading, joined, every}
 use Rattle.output.proofs.Pieces.{pieces-equal}
 use Rattle.output.proofs.Joined.{joined-next, joined-room}
+use Rattle.numbers.specs.Digits.{digitsOf}
 use Rattle.rows.specs.declared.ByteDigits.{ByteDigits}
 use Rattle.rows.specs.declared.ByteDigits.the-variants.{Binary, Hex}
-use Rattle.rows.specs.Rows.{digitsOf, perByte, digitBits, byteDigits, bytesText, rowsText}
+use Rattle.rows.specs.Rows.{perByte, digitBits, byteDigits, bytesText, rowsText}
 use Rattle.rows.proofs.Rows.{rows-none, singles-next}
 use Rattle.digits.specs.Run.{digitAt, run}
 use Rattle.digits.proofs.Run.{bytes-run}

@@ -5,7 +5,7 @@ ghost use mathlib.Core.List.{[], _∷_};
 ghost use Prim.Native.Nat.{_+_, _≤_};
 ghost use lib.ListN.{length};
 ghost use Rattle.output.specs.Writes.{Writes};
-ghost use Rattle.rows.specs.Rows.{digitsOf};
+ghost use Rattle.numbers.specs.Digits.{digitsOf};
 ghost use Rattle.eight_chars.specs.Word.{lowBytes};
 
 // Stores eight characters.
@@ -46,7 +46,7 @@ fn digit_word(byte: u8) -> u64
 }
 
 // Stores the eight bytes of a word, the lowest first.
-fn put_word(out: &mut [u8], at: usize, word: u64) -> usize
+pub fn put_word(out: &mut [u8], at: usize, word: u64) -> usize
     requires { ⌜ at + 8 ≤ length (now out) ⌝ }
     ensures { λ r. ⌜ Writes (lowBytes word) (now (out .entry)) at (now (out .exit)) r ⌝ }
 {

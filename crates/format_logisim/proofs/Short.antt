@@ -14,8 +14,8 @@ use Rattle.output.specs.Pieces.{pieces, every}
 use Rattle.output.proofs.Pieces.{pieces-next, pieces-append, pieces-equal, pieces-length}
 use Rattle.numbers.specs.declared.Letters.the-variants.{Lower}
 use Rattle.numbers.specs.Digits.{digitChar}
-use Rattle.rows.specs.Rows.{wordBytes}
-use Rattle.rows.proofs.Exhaust.{all, same, exhaust}
+use Rattle.eight_chars.specs.Word.{lowBytes}
+use Rattle.output.proofs.Exhaust.{all, same, exhaust}
 use Rattle.digits.specs.Run.{digitAt, run, shortDigit, hexLine}
 use Rattle.digits.specs.Parts.{partBits}
 use Rattle.format_logisim.specs.Logisim.{chunkText, chunkAt}
@@ -43,8 +43,8 @@ broken-length v =
     let front = pieces-length (λ k. digitOf 1 8 v k ∷ ascii " \n") 3 7 (λ k h. refl) in
     length-append (pieces (λ k. digitOf 1 8 v k ∷ ascii " \n") 7) (digitOf 1 8 v 7 ∷ ascii " ") ∙ rw front
 
-pub word-length : (v : ℕ) → length (wordBytes v) ≡ 8
-unfolding wordBytes
+pub word-length : (v : ℕ) → length (lowBytes v) ≡ 8
+unfolding lowBytes
 word-length v = pieces-length _ 1 8 (λ k h. refl)
 
 -- They are those of the halves.

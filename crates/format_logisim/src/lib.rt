@@ -12,8 +12,9 @@ ghost use Rattle.output.specs.Ascii.{ascii};
 ghost use Rattle.output.specs.Pieces.{pieces};
 ghost use Rattle.output.specs.Writes.{Writes};
 ghost use Rattle.outcome.specs.Outcome.{Exports};
+ghost use Rattle.eight_chars.specs.Word.{lowBytes};
 ghost use Rattle.rows.specs.declared.ByteDigits.the-variants.{Hex};
-ghost use Rattle.rows.specs.Rows.{wordBytes, rowsText};
+ghost use Rattle.rows.specs.Rows.{rowsText};
 ghost use Rattle.format_logisim.specs.Logisim.{chunkText, chunkAt, breaks, perLine, logisimText, logisimOutcome};
 ghost use Rattle.format_logisim.specs.Short.{spacedDigits, brokenDigits, byteChunks, wholeChunks};
 use bitvec::BitOffset;
@@ -180,14 +181,14 @@ fn put_lines(
 }
 
 // Four bits as binary digits with a space behind each, one character in each byte of a word, the first
-// highest. The mask lets through four bits that are never set, so that the compiler does not know the
-// spaces and stores the word at once.
+// lowest. The mask lets through four bits that are never set, the last of them because of the product's
+// highest term, so that the compiler does not know the spaces and stores the word at once.
 fn spaced_word(bits: u8) -> u64
     requires { ⌜ bits < 16 ⌝ }
-    ensures { λ r. ⌜ wordBytes r ≡ spacedDigits 1 4 bits ⌝ }
+    ensures { λ r. ⌜ lowBytes r ≡ spacedDigits 1 4 bits ⌝ }
 {
-    let spread = bits as u64 * 0x20_0040_0080_0101;
-    (spread & 0x110_0110_0110_0110) | 0x3020_3020_3020_3020
+    let spread = bits as u64 * 0x808_0004_0002_0001;
+    ((spread >> 3) & 0x1001_1001_1001_1001) | 0x2030_2030_2030_2030
 }
 
 // Stores the bits of byte `j` with a space behind each. The byte is read for each word, which keeps the
@@ -197,8 +198,8 @@ fn put_spaced(out: &mut [u8], at: usize, image: &[u8], bits: usize, j: usize) ->
     requires room { ⌜ at + 16 ≤ length (now out) ⌝ }
     ensures { λ r. ⌜ Writes (spacedDigits 1 8 (byteAt (now (image .entry)) bits j)) (now (out .entry)) at (now (out .exit)) r ⌝ }
 {
-    let next = rows::put_word(out, at, spaced_word(image[j] / 16));
-    rows::put_word(out, next, spaced_word(image[j] % 16))
+    let next = eight_chars::put_word(out, at, spaced_word(image[j] / 16));
+    eight_chars::put_word(out, next, spaced_word(image[j] % 16))
 }
 
 // Stores the bits of a byte that begins a line, with a newline behind each but the last.

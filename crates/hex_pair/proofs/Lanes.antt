@@ -13,7 +13,7 @@ use Rattle.numbers.specs.declared.Letters.the-variants.{Lower}
 use Rattle.numbers.specs.Digits.{digitChar, byteText}
 use Rattle.rows.specs.declared.ByteDigits.the-variants.{Hex}
 use Rattle.rows.specs.Rows.{byteDigits, bytesText}
-use Rattle.rows.proofs.Exhaust.{all, same, exhaust}
+use Rattle.output.proofs.Exhaust.{all, same, exhaust}
 use Rattle.hex_pair.specs.Pair.{fourBytes}
 
 -- A byte's halves, one in each byte of a number.

@@ -5,18 +5,24 @@ use mathlib.Core.Bool.{Bool, true, false, cond}
 use mathlib.Core.List.{List, [], _∷_, _++_, map, map-append}
 use Prim.Native.Nat.{ℕ, zero, suc, _+_, _/_, _%_, _^_, _≤_, _<_, _-_, max}
 use native.Mathlib.Omega.{arith}
-use native.Mathlib.Nat.{pow-suc, div-lt-self, div-lt-iff-lt-mul, div-eq-of-lt, mod-eq-of-lt, lt-of-lt-of-le, mul-le-mul-left, le-div-iff-mul-le, div-mul-le-self}
+use native.Mathlib.Nat.{mul-one, pow-suc, div-lt-self, div-lt-iff-lt-mul, div-eq-of-lt, mod-eq-of-lt, lt-of-lt-of-le, mul-le-mul-left, le-div-iff-mul-le, div-mul-le-self}
 use lib.Dec.{ltb}
 use lib.ListN.{length, replicate, length-append, length-map, length-replicate}
 use borrow.Author.Tests.{lt-ltb, le-ltb, ltb-false}
 use Rattle.output.proofs.Order.{by-order}
+use Rattle.output.proofs.Pieces.{pieces-length}
 use Rattle.numbers.specs.declared.Letters.{Letters}
 use Rattle.numbers.specs.declared.Letters.the-variants.{Lower, Upper}
-use Rattle.numbers.specs.Digits.{letterTen, digitChar, byteText, digitsIn, digits, digitCount, numberText, padded}
+use Rattle.numbers.specs.Digits.{letterTen, digitChar, byteText, digitsOf, digitsIn, digits, digitCount, numberText, padded}
 
 pub letter-small : (letters : Letters) → letterTen letters ≤ 97
 letter-small Lower = omega arith
 letter-small Upper = omega arith
+
+-- A number of m digits of some bits each has a character for each.
+pub digits-length : (w m v : ℕ) → length (digitsOf w m v) ≡ m
+unfolding digitsOf
+digits-length w m v = pieces-length _ 1 m (λ k h. refl) ∙ mul-one m
 
 -- A number below the radix is its own digit.
 pub digits-last : (radix n : ℕ) → n < radix → digits radix n ≡ n ∷ []

@@ -1,10 +1,11 @@
 -- Digits and numbers as text (the Rust's `to_str_radix` and its formats `{}`, `{:x}`, `{:02X}`, `{:01$x}`, `{:>1$}`).
 use mathlib.Core.Bool.{cond}
 use mathlib.Core.List.{List, [], _∷_, _++_, map}
-use Prim.Native.Nat.{ℕ, zero, suc, _+_, _-_, _/_, _%_}
+use Prim.Native.Nat.{ℕ, zero, suc, _+_, _-_, _*_, _/_, _%_, _^_}
 use Prim.Native.Char.{code}
 use lib.Dec.{ltb}
 use lib.ListN.{length, replicate}
+use Rattle.output.specs.Pieces.{pieces}
 use Rattle.numbers.specs.declared.Letters.{Letters}
 use Rattle.numbers.specs.declared.Letters.the-variants.{Lower, Upper}
 
@@ -20,6 +21,10 @@ digitChar letters d = cond (ltb d 10) (code "0" + d) (letterTen letters + (d - 1
 -- A byte as two hexadecimal digits.
 unfoldable pub byteText : Letters → ℕ → List ℕ
 byteText letters b = digitChar letters (b / 16) ∷ digitChar letters (b % 16) ∷ []
+
+-- The digits of w bits each that a number of m such digits is written with.
+unfoldable pub digitsOf : ℕ → ℕ → ℕ → List ℕ
+digitsOf w m v = pieces (λ k. digitChar Lower (v / 2 ^ ((m - 1 - k) * w) % 2 ^ w) ∷ []) m
 
 -- The digits of n in a radix of 2 or more, the highest first: n itself where it is below the radix, else those of n / radix and
 -- then n % radix. Each step makes the number smaller, so that more steps than its value are enough.

@@ -4,25 +4,20 @@ use mathlib.Core.Path.{_≡_, refl, _∙_}
 use mathlib.Core.List.{List, [], _∷_, _++_}
 use Prim.Native.Nat.{ℕ, _+_, _*_, _/_, _%_, _<_, _≤_}
 use native.Mathlib.Omega.{arith}
-use native.Mathlib.Nat.{suc-mul, mul-one, mul-le-mul-right}
+use native.Mathlib.Nat.{suc-mul, mul-le-mul-right}
 use lib.ListN.{length, length-append}
 use Rattle.bitvec.specs.Bits.{byteAt}
 use Rattle.output.specs.Pieces.{pieces}
 use Rattle.output.proofs.Pieces.{pieces-none, pieces-next, pieces-length}
-use Rattle.numbers.specs.declared.Letters.the-variants.{Lower}
-use Rattle.numbers.specs.Digits.{digitChar, byteText}
+use Rattle.numbers.specs.Digits.{byteText}
+use Rattle.numbers.proofs.Digits.{digits-length}
 use Rattle.rows.specs.declared.ByteDigits.{ByteDigits}
 use Rattle.rows.specs.declared.ByteDigits.the-variants.{Binary, Hex}
-use Rattle.rows.specs.Rows.{digitsOf, perByte, byteDigits, bytesText, rowsText}
+use Rattle.rows.specs.Rows.{perByte, byteDigits, bytesText, rowsText}
 
 -- One part more is within a number of parts that is larger.
 pub stride : (k n w : ℕ) → k < n → k * w + w ≤ n * w
 stride k n w h = rw (← suc-mul k w) (mul-le-mul-right w h)
-
--- A number of m digits has a character for each.
-pub digits-length : (w m v : ℕ) → length (digitsOf w m v) ≡ m
-unfolding digitsOf
-digits-length w m v = pieces-length _ 1 m (λ k h. refl) ∙ mul-one m
 
 pub byte-length : (kind : ByteDigits) (b : ℕ) → length (byteDigits kind b) ≡ perByte kind
 unfolding byteDigits byteText

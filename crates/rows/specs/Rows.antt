@@ -1,20 +1,12 @@
 -- Whole bytes of an image in digits: what the lines, chunks and groups of several formats are made of.
-use mathlib.Core.List.{List, [], _∷_, _++_}
-use Prim.Native.Nat.{ℕ, _+_, _-_, _*_, _/_, _%_, _^_}
+use mathlib.Core.List.{List, _++_}
+use Prim.Native.Nat.{ℕ, _+_, _*_}
 use Rattle.bitvec.specs.Bits.{byteAt}
 use Rattle.output.specs.Pieces.{pieces}
 use Rattle.numbers.specs.declared.Letters.the-variants.{Lower}
-use Rattle.numbers.specs.Digits.{digitChar, byteText}
+use Rattle.numbers.specs.Digits.{byteText, digitsOf}
 use Rattle.rows.specs.declared.ByteDigits.{ByteDigits}
 use Rattle.rows.specs.declared.ByteDigits.the-variants.{Binary, Hex}
-
--- The digits of w bits each that a number of m such digits is written with.
-unfoldable pub digitsOf : ℕ → ℕ → ℕ → List ℕ
-digitsOf w m v = pieces (λ k. digitChar Lower (v / 2 ^ ((m - 1 - k) * w) % 2 ^ w) ∷ []) m
-
--- The eight bytes of a word, the highest first.
-unfoldable pub wordBytes : ℕ → List ℕ
-wordBytes v = pieces (λ k. v / 2 ^ ((7 - k) * 8) % 256 ∷ []) 8
 
 -- How many digits a byte has.
 abbrev pub perByte : ByteDigits → ℕ

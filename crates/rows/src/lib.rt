@@ -1,12 +1,11 @@
 // Whole bytes of an image in digits, in rows with a text behind each: the inner loops of the formats
 // that write lines, chunks or groups of whole bytes. All bytes are in the image, which the caller has
 // shown, so that none is tested here.
-ghost use mathlib.Core.Path.{_≡_};
 ghost use mathlib.Core.List.{[], _∷_};
 ghost use Prim.Native.Nat.{_+_, _*_, _≤_, _<_};
 ghost use lib.ListN.{length};
 ghost use Rattle.output.specs.Writes.{Writes};
-ghost use Rattle.rows.specs.Rows.{digitsOf, wordBytes, perByte, byteDigits, bytesText, rowsText};
+ghost use Rattle.rows.specs.Rows.{perByte, byteDigits, bytesText, rowsText};
 use numbers::Letters;
 
 // How a byte is written: a digit for each bit, or two hexadecimal digits.
@@ -15,47 +14,13 @@ pub enum ByteDigits {
     Hex,
 }
 
-// The bits of a byte as binary digits, one in each byte of a word, the first digit highest.
-fn digit_word(byte: u8) -> u64
-    ensures { λ r. ⌜ wordBytes r ≡ digitsOf 1 8 byte ⌝ }
-{
-    let bits = byte as u64;
-    let fours = (bits | (bits << 28)) & 0xf_0000_000f;
-    let twos = (fours | (fours << 14)) & 0x3_0003_0003_0003;
-    let ones = (twos | (twos << 7)) & 0x101_0101_0101_0101;
-    ones | 0x3030_3030_3030_3030
-}
-
-// Stores the eight bytes of a word, the highest first.
-pub fn put_word(out: &mut [u8], at: usize, word: u64) -> usize
-    requires { ⌜ at + 8 ≤ length (now out) ⌝ }
-    ensures { λ r. ⌜ Writes (wordBytes word) (now (out .entry)) at (now (out .exit)) r ⌝ }
-{
-    let mut next = output::put(out, at, ((word >> 56) % 256) as u8);
-    next = output::put(out, next, ((word >> 48) % 256) as u8);
-    next = output::put(out, next, ((word >> 40) % 256) as u8);
-    next = output::put(out, next, ((word >> 32) % 256) as u8);
-    next = output::put(out, next, ((word >> 24) % 256) as u8);
-    next = output::put(out, next, ((word >> 16) % 256) as u8);
-    next = output::put(out, next, ((word >> 8) % 256) as u8);
-    output::put(out, next, (word % 256) as u8)
-}
-
-// Stores a byte as eight binary digits.
-pub fn put_bits(out: &mut [u8], at: usize, byte: u8) -> usize
-    requires { ⌜ at + 8 ≤ length (now out) ⌝ }
-    ensures { λ r. ⌜ Writes (digitsOf 1 8 byte) (now (out .entry)) at (now (out .exit)) r ⌝ }
-{
-    put_word(out, at, digit_word(byte))
-}
-
 // Stores a byte in digits.
 pub fn put_digits(out: &mut [u8], at: usize, kind: ByteDigits, byte: u8) -> usize
     requires { ⌜ at + perByte kind ≤ length (now out) ⌝ }
     ensures { λ r. ⌜ Writes (byteDigits kind byte) (now (out .entry)) at (now (out .exit)) r ⌝ }
 {
     match kind {
-        ByteDigits::Binary => put_bits(out, at, byte),
+        ByteDigits::Binary => eight_chars::put_bits(out, at, byte),
         ByteDigits::Hex => numbers::put_byte(out, at, Letters::Lower, byte),
     }
 }

@@ -13,8 +13,7 @@ use Rattle.output.specs.Writes.{Writes}
 use Rattle.output.proofs.Pieces.{pieces-none, pieces-next}
 use Rattle.output.proofs.Writes.{writes-nothing, writes-then, writes-length}
 use Rattle.numbers.specs.declared.Letters.the-variants.{Lower}
-use Rattle.numbers.specs.Digits.{digitChar}
-use Rattle.rows.specs.Rows.{digitsOf}
+use Rattle.numbers.specs.Digits.{digitChar, digitsOf}
 use Rattle.digits.proofs.put_eight.Statement.{statement}
 use Rattle.digits.proofs.put_eight.Tie as tie
 

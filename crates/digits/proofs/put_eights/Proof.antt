@@ -7,7 +7,7 @@ use lib.ListN.{length}
 use borrow.Author.Needs.{needs}
 use Rattle.output.specs.Writes.{Writes}
 use Rattle.output.proofs.Writes.{writes-nothing, writes-then, writes-length}
-use Rattle.rows.proofs.Rows.{digits-length}
+use Rattle.numbers.proofs.Digits.{digits-length}
 use Rattle.digits.specs.Run.{run}
 use Rattle.digits.proofs.Run.{run-none, run-append, run-number}
 use Rattle.digits.proofs.put_eights.Statement.{statement}

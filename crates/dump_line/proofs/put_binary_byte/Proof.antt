@@ -4,7 +4,7 @@ use native.Mathlib.Omega.{arith}
 use lib.ListN.{getD}
 use borrow.Author.Needs.{needs}
 use Rattle.output.proofs.Writes.{writes-then, writes-length}
-use Rattle.rows.proofs.Rows.{digits-length}
+use Rattle.numbers.proofs.Digits.{digits-length}
 use Rattle.dump_line.proofs.Whole.{binary-byte}
 use Rattle.dump_line.proofs.put_binary_byte.Statement.{statement}
 use Rattle.dump_line.proofs.put_binary_byte.Tie as tie

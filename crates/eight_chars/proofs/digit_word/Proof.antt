@@ -6,9 +6,8 @@ use lib.Bits.{bitAnd, bitOr}
 use lib.Dec.{T}
 use borrow.Author.Needs.{needs}
 use Rattle.output.specs.Pieces.{pieces}
-use Rattle.numbers.specs.Digits.{digitChar}
-use Rattle.rows.specs.Rows.{digitsOf}
-use Rattle.rows.proofs.Exhaust.{all, same, exhaust}
+use Rattle.numbers.specs.Digits.{digitChar, digitsOf}
+use Rattle.output.proofs.Exhaust.{all, same, exhaust}
 use Rattle.eight_chars.specs.Word.{lowBytes}
 use Rattle.eight_chars.proofs.digit_word.Statement.{statement}
 use Rattle.eight_chars.proofs.digit_word.Tie as tie

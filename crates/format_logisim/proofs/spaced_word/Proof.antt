@@ -1,30 +1,30 @@
 -- `format_logisim::spaced_word` meets its contract: computed for each of the 16 numbers.
 -- Assumes nothing.
-use Prim.Native.Nat.{ℕ, _*_}
+use Prim.Native.Nat.{ℕ, _*_, _/_, _^_}
 use lib.Bits.{bitAnd, bitOr}
 use lib.Dec.{T}
 use borrow.Author.Needs.{needs}
 use Rattle.output.specs.Pieces.{pieces}
 use Rattle.numbers.specs.Digits.{digitChar}
-use Rattle.rows.specs.Rows.{wordBytes}
-use Rattle.rows.proofs.Exhaust.{all, same, exhaust}
+use Rattle.eight_chars.specs.Word.{lowBytes}
+use Rattle.output.proofs.Exhaust.{all, same, exhaust}
 use Rattle.format_logisim.specs.Short.{digitOf, spacedDigits}
 use Rattle.format_logisim.proofs.spaced_word.Statement.{statement}
 use Rattle.format_logisim.proofs.spaced_word.Tie as tie
 
 -- the word, as the code computes it
 abbrev word : ℕ → ℕ
-word b = bitOr (bitAnd (b * 9007474141036801) 76562361914229008) 3467824627879784480
+word b = bitOr (bitAnd (b * 578712569297108993 / 2 ^ 3) 1153220576333074433) 2319389199166349360
 
-right : T (all (λ b. same (wordBytes (word b)) (spacedDigits 1 4 b)) 16)
-unfolding wordBytes spacedDigits digitOf pieces digitChar
+right : T (all (λ b. same (lowBytes (word b)) (spacedDigits 1 4 b)) 16)
+unfolding lowBytes spacedDigits digitOf pieces digitChar
 right = tt
 
 mul-spread : tie.Need-mul-spread
 mul-spread c = search needs
 
 returns : tie.Need-returns
-returns c = exhaust (λ b. wordBytes (word b)) (spacedDigits 1 4) 16 right (c .args .bits) (c .pre)
+returns c = exhaust (λ b. lowBytes (word b)) (spacedDigits 1 4) 16 right (c .args .bits) (c .pre)
 
 pub spaced-word-spec : {M : Type 1} → statement M
 spaced-word-spec = tie.close (tie.spec mul-spread returns)

@@ -7,7 +7,7 @@ use lib.Bits.{bitAnd, bitOr, and-le-r}
 use lib.Dec.{T}
 use Rattle.numbers.specs.declared.Letters.the-variants.{Upper}
 use Rattle.numbers.specs.Digits.{digitChar, byteText}
-use Rattle.rows.proofs.Exhaust.{all, same, exhaust}
+use Rattle.output.proofs.Exhaust.{all, same, exhaust}
 use Rattle.hex_text.proofs.pair.Statement.{statement}
 use Rattle.hex_text.proofs.pair.Tie as tie
 

@@ -1,4 +1,4 @@
--- Two functions of a byte that give the same list at each of the 256 bytes, found by computing all.
+-- Two functions that give the same list at each number below some number, as a byte, found by computing all.
 -- Assumes nothing.
 use mathlib.Core.Path.{_≡_, refl, ap₂}
 use mathlib.Core.Bool.{Bool, true, false}
