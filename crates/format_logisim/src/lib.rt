@@ -8,13 +8,10 @@ ghost use lib.Dec.{eqb};
 ghost use lib.ListN.{length};
 ghost use Rattle.bitvec.specs.Bits.{byteAt};
 ghost use Rattle.bitvec.specs.Size.{ceilDiv};
-ghost use Rattle.output.specs.Ascii.{ascii};
 ghost use Rattle.output.specs.Pieces.{pieces};
 ghost use Rattle.output.specs.Writes.{Writes};
 ghost use Rattle.outcome.specs.Outcome.{Exports};
 ghost use Rattle.eight_chars.specs.Word.{lowBytes};
-ghost use Rattle.rows.specs.declared.ByteDigits.the-variants.{Hex};
-ghost use Rattle.rows.specs.Rows.{rowsText};
 ghost use Rattle.format_logisim.specs.Logisim.{chunkText, chunkAt, breaks, perLine, logisimText, logisimOutcome};
 ghost use Rattle.format_logisim.specs.Short.{spacedDigits, brokenDigits, byteChunks, wholeChunks};
 use bitvec::BitOffset;
@@ -125,37 +122,6 @@ fn put_chunks(
     next
 }
 
-// Stores `count` chunks of `size` bytes each, from byte `first` on: those of two bytes by a loop of
-// their own.
-fn put_line(
-    out: &mut [u8],
-    at: usize,
-    image: &[u8],
-    bits: usize,
-    first: usize,
-    size: usize,
-    count: usize,
-) -> usize
-    requires inside { ⌜ ((first + count * size) * 8 ≤ bits) × (first + count * size ≤ length (now image)) ⌝ }
-    requires room { ⌜ at + count * (size * 2 + 1) ≤ length (now out) ⌝ }
-    ensures { λ r. ⌜ Writes (rowsText Hex (now (image .entry)) bits first size (ascii " ") count) (now (out .entry)) at (now (out .exit)) r ⌝ }
-{
-    if size == 2 {
-        return hex_pair::put_pairs(out, at, image, bits, first, b' ', count);
-    }
-    rows::put_rows(
-        out,
-        at,
-        ByteDigits::Hex,
-        image,
-        bits,
-        first,
-        size,
-        b" ",
-        count,
-    )
-}
-
 // Stores `lines` lines of 16 whole bytes of the image: `count` chunks of `size` bytes each.
 fn put_lines(
     out: &mut [u8],
@@ -173,7 +139,17 @@ fn put_lines(
     let mut next = at;
     let mut k = 0;
     while k < lines {
-        next = put_line(out, next, image, bits, k * 16, size, count);
+        next = rows::put_rows(
+            out,
+            next,
+            ByteDigits::Hex,
+            image,
+            bits,
+            k * 16,
+            size,
+            b" ",
+            count,
+        );
         next = output::put(out, next, b'\n');
         k += 1;
     }

@@ -1,6 +1,6 @@
 -- Laws of whole bytes in digits.
 -- Assumes nothing.
-use mathlib.Core.Path.{_≡_, refl, _∙_}
+use mathlib.Core.Path.{_≡_, refl, ap, _∙_}
 use mathlib.Core.List.{List, [], _∷_, _++_}
 use Prim.Native.Nat.{ℕ, _+_, _*_, _/_, _%_, _<_, _≤_}
 use native.Mathlib.Omega.{arith}
@@ -8,7 +8,8 @@ use native.Mathlib.Nat.{suc-mul, mul-le-mul-right}
 use lib.ListN.{length, length-append}
 use Rattle.bitvec.specs.Bits.{byteAt}
 use Rattle.output.specs.Pieces.{pieces}
-use Rattle.output.proofs.Pieces.{pieces-none, pieces-next, pieces-length}
+use Rattle.output.proofs.Pieces.{pieces-none, pieces-next, pieces-append, pieces-equal, pieces-length}
+use Rattle.numbers.specs.declared.Letters.the-variants.{Lower}
 use Rattle.numbers.specs.Digits.{byteText}
 use Rattle.numbers.proofs.Digits.{digits-length}
 use Rattle.rows.specs.declared.ByteDigits.{ByteDigits}
@@ -37,6 +38,21 @@ bytes-next kind bytes len i m = pieces-next _ m
 pub bytes-length : (kind : ByteDigits) (bytes : List ℕ) (len i m : ℕ) → length (bytesText kind bytes len i m) ≡ m * perByte kind
 unfolding bytesText
 bytes-length kind bytes len i m = pieces-length _ (perByte kind) m (λ j h. byte-length kind (byteAt bytes len (i + j)))
+
+-- Two bytes in hexadecimal.
+pub two-text : (bytes : List ℕ) (len i : ℕ) → bytesText Hex bytes len i 2 ≡ byteText Lower (byteAt bytes len i) ++ byteText Lower (byteAt bytes len (i + 1))
+unfolding bytesText byteDigits pieces
+two-text bytes len i =
+    let place : i + 0 ≡ i = omega arith in
+    rw place
+
+-- Four are two and two.
+pub four-text : (kind : ByteDigits) (bytes : List ℕ) (len i : ℕ) → bytesText kind bytes len i 4 ≡ bytesText kind bytes len i 2 ++ bytesText kind bytes len (i + 2) 2
+unfolding bytesText
+four-text kind bytes len i =
+    pieces-append (λ j. byteDigits kind (byteAt bytes len (i + j))) 2 2
+    ∙ ap (λ (t : List ℕ). pieces (λ j. byteDigits kind (byteAt bytes len (i + j))) 2 ++ t)
+    (pieces-equal _ _ 2 (λ j h. let place : i + (2 + j) ≡ i + 2 + j = omega arith in rw place))
 
 pub rows-none : (kind : ByteDigits) (bytes : List ℕ) (len i m : ℕ) (tail : List ℕ) → rowsText kind bytes len i m tail 0 ≡ []
 unfolding rowsText

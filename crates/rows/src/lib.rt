@@ -5,6 +5,7 @@ ghost use mathlib.Core.List.{[], _∷_};
 ghost use Prim.Native.Nat.{_+_, _*_, _≤_, _<_};
 ghost use lib.ListN.{length};
 ghost use Rattle.output.specs.Writes.{Writes};
+ghost use Rattle.rows.specs.declared.ByteDigits.the-variants.{Hex};
 ghost use Rattle.rows.specs.Rows.{perByte, byteDigits, bytesText, rowsText};
 use numbers::Letters;
 
@@ -177,8 +178,99 @@ fn put_wide(
     next
 }
 
+// Stores two bytes of the image from byte `place` on in hexadecimal.
+fn put_two(out: &mut [u8], at: usize, bytes: &[u8], len: usize, place: usize) -> usize
+    requires inside { ⌜ ((place + 2) * 8 ≤ len) × (place + 2 ≤ length (now bytes)) ⌝ }
+    requires room { ⌜ at + 4 ≤ length (now out) ⌝ }
+    ensures { λ r. ⌜ Writes (bytesText Hex (now (bytes .entry)) len place 2) (now (out .entry)) at (now (out .exit)) r ⌝ }
+{
+    hex_pair::put_pair(out, at, bytes[place], bytes[place + 1])
+}
+
+// Stores `count` rows of two bytes in hexadecimal, and a character behind each.
+fn put_pairs(
+    out: &mut [u8],
+    at: usize,
+    bytes: &[u8],
+    len: usize,
+    first: usize,
+    tail: u8,
+    count: usize,
+) -> usize
+    requires inside { ⌜ ((first + count * 2) * 8 ≤ len) × (first + count * 2 ≤ length (now bytes)) ⌝ }
+    requires room { ⌜ at + count * 5 ≤ length (now out) ⌝ }
+    ensures { λ r. ⌜ Writes (rowsText Hex (now (bytes .entry)) len first 2 (tail ∷ []) count) (now (out .entry)) at (now (out .exit)) r ⌝ }
+{
+    let mut next = at;
+    for k in 0..count {
+        next = put_two(out, next, bytes, len, first + k * 2);
+        next = output::put(out, next, tail);
+    }
+    next
+}
+
+// Stores `count` rows of four bytes in hexadecimal, and a character behind each.
+fn put_fours(
+    out: &mut [u8],
+    at: usize,
+    bytes: &[u8],
+    len: usize,
+    first: usize,
+    tail: u8,
+    count: usize,
+) -> usize
+    requires inside { ⌜ ((first + count * 4) * 8 ≤ len) × (first + count * 4 ≤ length (now bytes)) ⌝ }
+    requires room { ⌜ at + count * 9 ≤ length (now out) ⌝ }
+    ensures { λ r. ⌜ Writes (rowsText Hex (now (bytes .entry)) len first 4 (tail ∷ []) count) (now (out .entry)) at (now (out .exit)) r ⌝ }
+{
+    let mut next = at;
+    for k in 0..count {
+        next = put_two(out, next, bytes, len, first + k * 4);
+        next = put_two(out, next, bytes, len, first + k * 4 + 2);
+        next = output::put(out, next, tail);
+    }
+    next
+}
+
+// Stores `count` rows of `width` bytes each in hexadecimal: rows of two and of four bytes with one
+// character behind have loops of their own.
+fn put_hex(
+    out: &mut [u8],
+    at: usize,
+    bytes: &[u8],
+    len: usize,
+    first: usize,
+    width: usize,
+    tail: &[u8],
+    count: usize,
+) -> usize
+    requires inside { ⌜ ((first + count * width) * 8 ≤ len) × (first + count * width ≤ length (now bytes)) ⌝ }
+    requires room { ⌜ at + count * (width * 2 + length (now tail)) ≤ length (now out) ⌝ }
+    ensures { λ r. ⌜ Writes (rowsText Hex (now (bytes .entry)) len first width (now (tail .entry)) count) (now (out .entry)) at (now (out .exit)) r ⌝ }
+{
+    if tail.len() == 1 {
+        if width == 2 {
+            return put_pairs(out, at, bytes, len, first, tail[0], count);
+        }
+        if width == 4 {
+            return put_fours(out, at, bytes, len, first, tail[0], count);
+        }
+    }
+    put_wide(
+        out,
+        at,
+        ByteDigits::Hex,
+        bytes,
+        len,
+        first,
+        width,
+        tail,
+        count,
+    )
+}
+
 // Stores `count` rows of `width` bytes each, from byte `first` on, and `tail` behind each. Rows of one
-// byte have a loop of their own, since they are the most frequent ones.
+// byte and rows in hexadecimal have loops of their own, since they are the most frequent ones.
 pub fn put_rows(
     out: &mut [u8],
     at: usize,
@@ -197,5 +289,8 @@ pub fn put_rows(
     if width == 1 {
         return put_singles(out, at, kind, bytes, len, first, tail, count);
     }
-    put_wide(out, at, kind, bytes, len, first, width, tail, count)
+    match kind {
+        ByteDigits::Binary => put_wide(out, at, kind, bytes, len, first, width, tail, count),
+        ByteDigits::Hex => put_hex(out, at, bytes, len, first, width, tail, count),
+    }
 }

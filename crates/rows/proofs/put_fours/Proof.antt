@@ -1,0 +1,123 @@
+-- `rows::put_fours` meets its contract: after k turns k rows are written.
+-- Assumes nothing.
+use mathlib.Core.Path.{_≡_, refl}
+use mathlib.Core.List.{[], _∷_}
+use Prim.Native.Nat.{_+_, _-_, _*_, _≤_}
+use native.Mathlib.Omega.{arith}
+use lib.ListN.{length}
+use borrow.Author.Needs.{needs}
+use Rattle.output.specs.Writes.{Writes}
+use Rattle.output.proofs.Writes.{writes-nothing, writes-then, writes-length}
+use Rattle.rows.specs.declared.ByteDigits.the-variants.{Hex}
+use Rattle.rows.specs.Rows.{rowsText}
+use Rattle.rows.proofs.Rows.{stride, bytes-length, four-text, rows-none, rows-next, rows-length}
+use Rattle.rows.proofs.put_fours.Statement.{statement}
+use Rattle.rows.proofs.put_fours.Tie as tie
+
+abbrev Inv-loop : tie.InvT-loop
+Inv-loop out₀ at bytes len first tail count next₀ k₀ out next k =
+    (k ≤ count) × Writes (rowsText Hex bytes len first 4 (tail ∷ []) k) out₀ at out next × (length out ≡ length out₀)
+
+abbrev μ-loop : tie.MeasureT-loop
+μ-loop out₀ at bytes len first tail count next₀ k₀ out next k = count - k
+
+-- in a turn there is room for a row
+room : (c : tie.In-loop Inv-loop μ-loop) → c .before .loop .next + 9 ≤ length (c .before .loop .out)
+room c =
+    let l = c .before .loop in
+    let start = c .before .before .before .before in
+    let a = start .args in
+    omega
+    (arith, l .inv .1 .next, l .inv .2, rows-length Hex (a .bytes .now) (a .len) (a .first) 4 (a .tail ∷ []) (l .k), stride (l .k) (a .count) 9 (c .loop-test .taken), start .pre .1)
+
+loop-holds : tie.Need-loop-holds Inv-loop μ-loop
+loop-holds c = (search needs, rw (rows-none _ _ _ _ _ _) (writes-nothing _ _), refl)
+
+mul-put-two : tie.Need-mul-put-two Inv-loop μ-loop
+mul-put-two c = search needs
+
+add-put-two : tie.Need-add-put-two Inv-loop μ-loop
+add-put-two c = search needs
+
+put-two-requires : tie.Need-put-two-requires Inv-loop μ-loop
+put-two-requires c κs = (search needs, omega (arith, room (c .before)))
+
+mul-put-two-2 : tie.Need-mul-put-two-2 Inv-loop μ-loop
+mul-put-two-2 c = search needs
+
+add-put-two-2 : tie.Need-add-put-two-2 Inv-loop μ-loop
+add-put-two-2 c = search needs
+
+add-put-two-3 : tie.Need-add-put-two-3 Inv-loop μ-loop
+add-put-two-3 c = search needs
+
+put-two-requires-2 : tie.Need-put-two-requires-2 Inv-loop μ-loop
+put-two-requires-2 c κs =
+    let put = c .before .before .before in
+    let turn = put .before .before in
+    let l = turn .before in
+    let a = l .before .before .before .args in (
+      search needs,
+      omega (arith, room turn, put .put-two .ensures .next, writes-length (put .put-two .ensures), bytes-length Hex (a .bytes .now) (a .len) (a .first + l .loop .k * 4) 2),
+    )
+
+put-requires : tie.Need-put-requires Inv-loop μ-loop
+put-requires c κs =
+    let put₂ = c .before .before .before in
+    let put = put₂ .before .before .before .before in
+    let turn = put .before .before in
+    let l = turn .before in
+    let a = l .before .before .before .args in
+    let place = a .first + l .loop .k * 4 in
+    omega
+    (arith, room turn, put .put-two .ensures .next, writes-length (put .put-two .ensures), bytes-length Hex (a .bytes .now) (a .len) place 2, put₂ .put-two2 .ensures .next, writes-length (put₂ .put-two2 .ensures), bytes-length Hex (a .bytes .now) (a .len) (place + 2) 2)
+
+add-k : tie.Need-add-k Inv-loop μ-loop
+add-k c = search needs
+
+loop-less : tie.Need-loop-less Inv-loop μ-loop
+loop-less c = search needs
+
+loop-again : tie.Need-loop-again Inv-loop μ-loop
+loop-again c =
+    let last = c .before .before in
+    let put₂ = last .before .before .before .before in
+    let put = put₂ .before .before .before .before in
+    let turn = put .before .before in
+    let l = turn .before in
+    let a = l .before .before .before .args in (
+      search needs,
+      rw (rows-next Hex (a .bytes .now) (a .len) (a .first) 4 (a .tail ∷ []) (l .loop .k), four-text Hex (a .bytes .now) (a .len) (a .first + l .loop .k * 4))
+          (writes-then (l .loop .inv .1) (writes-then (writes-then (put .put-two .ensures) (put₂ .put-two2 .ensures)) (last .put .ensures))),
+      omega (arith, l .loop .inv .2, writes-length (put .put-two .ensures), writes-length (put₂ .put-two2 .ensures), writes-length (last .put .ensures)),
+    )
+
+same-length : tie.Need-same-length Inv-loop μ-loop
+same-length c = search needs
+
+returns : tie.Need-returns Inv-loop μ-loop
+returns c =
+    let l = c .before in
+    let done : l .loop .k ≡ l .before .before .before .args .count = omega arith in
+    rw done at (l .loop .inv .1)
+
+pub put-fours-spec : {M : Type 1} → statement M
+put-fours-spec =
+    tie.close
+    (tie.spec
+    Inv-loop
+    μ-loop
+    loop-holds
+    mul-put-two
+    add-put-two
+    put-two-requires
+    mul-put-two-2
+    add-put-two-2
+    add-put-two-3
+    put-two-requires-2
+    put-requires
+    add-k
+    loop-less
+    loop-again
+    same-length
+    returns)
