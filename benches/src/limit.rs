@@ -1,9 +1,7 @@
-//! The limits: of Intel HEX the loop of limit.c, and the library beside it; of the growth that of a
-//! plain copy.
+//! The limit of Intel HEX: the loop of limit.c, and the library beside it.
 
 use crate::cases::Case;
-use crate::measure::{self, Side};
-use crate::sides;
+use crate::{measure, sides};
 use std::hint::black_box;
 
 extern "C" {
@@ -43,24 +41,4 @@ fn write(image: &[u8], out: &mut [u8]) -> usize {
     assert!(image.len() <= 65_536 && out.len() >= text_len(image.len()));
     // Safe: the slices are lent for the call, and `out` has room for the text.
     unsafe { limit_intelhex(image.as_ptr(), image.len(), out.as_mut_ptr()) }
-}
-
-/// The exporter that does no more than copy the image, so that its growth is that of the memory.
-pub const COPY: &str = "binary";
-
-/// The nanoseconds of a plain copy of each case's image.
-pub fn copies(cases: &[Case]) -> Vec<f64> {
-    let images: Vec<Vec<u8>> = cases.iter().map(Case::bytes).collect();
-    let mut outs = images.clone();
-    let copy = |(image, out): (_, _)| copy(image, out);
-    let mut sides: Vec<Side> = images.iter().zip(&mut outs).map(copy).collect();
-    measure::medians(&mut sides)
-}
-
-/// Copies of an image into one buffer.
-fn copy<'a>(image: &'a Vec<u8>, out: &'a mut Vec<u8>) -> Side<'a> {
-    Box::new(move || {
-        out.copy_from_slice(black_box(image));
-        black_box(&mut *out);
-    })
 }

@@ -74,9 +74,6 @@ fn compare(words: &[String]) -> Result<(), String> {
     if let Some(case) = groups.iter().flatten().find(|case| case.name() == limit::CASE) {
         table::limit(case, limit::measure(case)?);
     }
-    for group in groups.iter().filter(|group| group[0].exporter.name == limit::COPY) {
-        table::copies(group, &limit::copies(group));
-    }
     table.end();
     Ok(())
 }

@@ -14,6 +14,8 @@ pub struct Times {
     pub ours: f64,
     /// Ours with a fresh buffer, whose length a call before tells.
     pub drop_in: f64,
+    /// A plain copy of the text, from one buffer to another.
+    pub copy: f64,
 }
 
 /// Measures cases together. The images of the Rust, by their bits, have the cases' spans.
@@ -23,12 +25,15 @@ pub fn measure(cases: &[Case], images: &BTreeMap<usize, Image>) -> Result<Vec<Ti
         all.extend(sides(case, &images[&case.bits])?);
     }
     let medians = measure::medians(&mut all);
-    let times = |three: &[f64]| Times { rust: three[0], ours: three[1], drop_in: three[2] };
-    Ok(medians.chunks(3).map(times).collect())
+    let times = |four: &[f64]| {
+        let [rust, ours, drop_in, copy] = four.try_into().expect("four sides");
+        Times { rust, ours, drop_in, copy }
+    };
+    Ok(medians.chunks(4).map(times).collect())
 }
 
-/// The three sides of a case, after the texts are compared.
-fn sides<'a>(case: &'a Case, image: &'a Image) -> Result<[Side<'a>; 3], String> {
+/// The four sides of a case, after the texts are compared.
+fn sides<'a>(case: &'a Case, image: &'a Image) -> Result<[Side<'a>; 4], String> {
     let out = text(case, &image.bytes)?;
     if out != (case.exporter.rust)(&image.rust) {
         return Err(format!("{}: the texts differ", case.name()));
@@ -40,7 +45,12 @@ fn sides<'a>(case: &'a Case, image: &'a Image) -> Result<[Side<'a>; 3], String> 
         let mut fresh = room(case, &image.bytes);
         assert!(call(case, &image.bytes, &mut fresh).is_ok());
     };
-    Ok([Box::new(rust), ours(case, &image.bytes, out), Box::new(drop_in)])
+    let (text, mut other) = (out.clone(), out.clone());
+    let copy = move || {
+        other.copy_from_slice(black_box(&text));
+        black_box(&mut other);
+    };
+    Ok([Box::new(rust), ours(case, &image.bytes, out), Box::new(drop_in), Box::new(copy)])
 }
 
 /// Calls of the library into one buffer.

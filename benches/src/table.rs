@@ -8,6 +8,9 @@ use crate::sides::Times;
 /// The most that the time may grow where the image is twice as large.
 const GROWTH: f64 = 2.2;
 
+/// The most times that of a plain copy of the text, where the memory makes it grow more than linearly.
+const COPY: f64 = GROWTH / 2.0;
+
 /// How many of the numbers that have a target meet it.
 #[derive(Default)]
 struct Count {
@@ -33,6 +36,8 @@ impl Count {
 pub struct Table {
     ratios: Count,
     growths: Count,
+    /// Growths above the target that are at most `COPY` times that of a plain copy of the text.
+    copies: usize,
 }
 
 impl Table {
@@ -42,13 +47,15 @@ impl Table {
         println!(
             "\
 Processor time in nanoseconds per byte of the image, of get_blocks per span: the median of
-{least} to {most} rounds. A round measures the three sides in turn, for each size of the image, in
+{least} to {most} rounds. A round measures all sides in turn, for each size of the image, in
 as many calls as take {milliseconds} ms or more.
   Rust       a call, which allocates its text, and the release of the text
   Riceshoal  a call into a buffer of the text's length; all calls use one buffer, not cleared first
   drop-in    a call for the length, a fresh buffer of zeros, a call into it, the buffer's release
   ratio      the Rust's time divided by Riceshoal's, then by that of drop-in
-  growth     Riceshoal's time for twice the image, from the size above to this one; at most {GROWTH}
+  growth     Riceshoal's time for twice the image, from the size above to this one; at most {GROWTH}.
+             copy: it is above, and at most {COPY} times that of a plain copy of the text, which is
+             measured too: the larger text no longer fits in the processor's own memory
   off by 3   the image ends 3 bits before a byte does; spans start at bit 3
 Images and spans are made before. Freed memory is kept, so that no allocation waits for the system.
 Spans divide the image into equal parts from its start on; equal ones are all at its start.
@@ -80,13 +87,23 @@ spans first, which allocates for addresses other than 0; addr 0 says that all ar
     pub fn group(&mut self, cases: &[Case], times: &[Times]) {
         let mut last = None;
         for (case, times) in cases.iter().zip(times) {
-            let growth = last.map(|last| growth(last, (case.size(), times.ours)));
-            self.line(case, times, growth);
-            last = Some((case.size(), times.ours));
+            let from = |(size, before): (usize, &Times)| {
+                let to = |before, now| growth((size, before), (case.size(), now));
+                [to(before.ours, times.ours), to(before.copy, times.copy)]
+            };
+            self.line(case, times, last.map(from));
+            last = Some((case.size(), times));
         }
     }
 
-    fn line(&mut self, case: &Case, times: &Times, growth: Option<f64>) {
+    /// Says in a word whether a growth meets its target; beside it stands that of a plain copy.
+    fn growth(&mut self, ours: f64, copy: f64) -> &'static str {
+        let copied = ours > GROWTH && ours <= COPY * copy;
+        self.copies += copied as usize;
+        self.growths.word(ours <= GROWTH, if copied { "copy" } else { "above" })
+    }
+
+    fn line(&mut self, case: &Case, times: &Times, growths: Option<[f64; 2]>) {
         let [rust, ours, drop_in] =
             [times.rust, times.ours, times.drop_in].map(|time| time / case.divisor());
         let ratio = rust / ours;
@@ -94,9 +111,9 @@ spans first, which allocates for addresses other than 0; addr 0 says that all ar
             None => ("-".to_string(), ""),
             Some(target) => (target.to_string(), self.ratios.word(ratio >= target, "below")),
         };
-        let (growth, growth_word) = match growth {
+        let (growth, growth_word) = match growths {
             None => ("-".to_string(), ""),
-            Some(growth) => (format!("{growth:.2}"), self.growths.word(growth <= GROWTH, "above")),
+            Some([ours, copy]) => (format!("{ours:.2}"), self.growth(ours, copy)),
         };
         println!(
             "{:40} {:8} {:>7} {rust:9.3} {ours:9.3} {ratio:7.2} {target:>6} {word:5} {growth:>6} \
@@ -110,9 +127,10 @@ spans first, which allocates for addresses other than 0; addr 0 says that all ar
 
     /// Prints how many targets are met.
     pub fn end(&self) {
-        let Table { ratios, growths } = self;
+        let Table { ratios, growths, copies } = self;
         println!(
-            "\n{} of {} ratios meet their target; {} of {} growths are at most {GROWTH}",
+            "\n{} of {} ratios meet their target; {} of {} growths are at most {GROWTH}, and {copies} \
+             more at most {COPY} times that of a plain copy of the text",
             ratios.met, ratios.all, growths.met, growths.all
         );
     }
@@ -135,20 +153,4 @@ pub fn limit(case: &Case, times: [f64; 2]) {
         case.name(),
         limit::TARGET
     );
-}
-
-/// Prints the line of plain copies, which says how the memory's own time grows.
-pub fn copies(cases: &[Case], times: &[f64]) {
-    let mut last = None;
-    let mut parts = Vec::new();
-    for (case, &time) in cases.iter().zip(times) {
-        let mut part = format!("{} {:.3}", case.size_name(), time / case.divisor());
-        if let Some(last) = last {
-            part += &format!(" (growth {:.2})", growth(last, (case.size(), time)));
-        }
-        parts.push(part);
-        last = Some((case.size(), time));
-    }
-    let Case { exporter, alignment, .. } = &cases[0];
-    println!("limit: {}, {alignment}: a plain copy takes {}", exporter.name, parts.join(", "));
 }
