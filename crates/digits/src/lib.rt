@@ -7,7 +7,6 @@ ghost use Prim.Native.Nat.{_+_, _*_, _/_, _%_, _≤_, _<_, _^_, min};
 ghost use lib.Dec.{eqb};
 ghost use lib.ListN.{length};
 ghost use Rattle.output.specs.Writes.{Writes};
-ghost use Rattle.numbers.specs.Digits.{digitsOf};
 ghost use Rattle.rows.specs.Rows.{perByte, digitBits};
 ghost use Rattle.digits.specs.Base.{baseBits};
 ghost use Rattle.digits.specs.Run.{digitAt, run, shortDigit, hexLine};
@@ -110,21 +109,6 @@ fn put_eights(
     put_each(out, next, bytes, len, 1, BitOffset(offset), count - k)
 }
 
-// Stores the eight digits of `width` bits each that a number ends with.
-fn put_eight(out: &mut [u8], at: usize, word: u64, width: usize) -> usize
-    requires { ⌜ (width ≤ 5) × (at + 8 ≤ length (now out)) ⌝ }
-    ensures { λ r. ⌜ Writes (digitsOf width 8 word) (now (out .entry)) at (now (out .exit)) r ⌝ }
-{
-    let base: u64 = 1 << width as u64;
-    let mut next = at;
-    for k in 0..8 {
-        let behind = (7 - k) * width;
-        let digit = ((word >> behind as u64) % base) as u8;
-        next = output::put(out, next, numbers::digit_char(Letters::Lower, digit));
-    }
-    next
-}
-
 // Stores `count` times eight digits of `width` bits each, behind the first `shift` bits of byte
 // `first`. Eight digits have `width` bytes, and are cut out of the eight bytes that hold them.
 fn put_words(
@@ -148,37 +132,11 @@ fn put_words(
     let mut k = 0;
     while k < count {
         let word = bitvec::read_word(bytes, place);
-        next = put_eight(out, next, word >> behind, width);
+        next = word_digits::put_eight(out, next, word >> behind, width);
         place += width;
         k += 1;
     }
     next
-}
-
-// The same, with calls of their own for the widths that divide no byte, so that the compiler can make
-// a copy of the loop with fixed shifts for each.
-fn put_words_of(
-    out: &mut [u8],
-    at: usize,
-    bytes: &[u8],
-    len: usize,
-    width: usize,
-    first: usize,
-    shift: usize,
-    count: usize,
-) -> usize
-    requires small { ⌜ (width ≤ 5) × (shift ≤ 7) × (0 < width) ⌝ }
-    requires inside { ⌜ ((first + count * width + 8) * 8 ≤ len) × (first + count * width + 8 ≤ length (now bytes)) ⌝ }
-    requires room { ⌜ at + count * 8 ≤ length (now out) ⌝ }
-    ensures { λ r. ⌜ Writes (run (now (bytes .entry)) len width (first * 8 + shift) (count * 8)) (now (out .entry)) at (now (out .exit)) r ⌝ }
-{
-    if width == 3 {
-        return put_words(out, at, bytes, len, 3, first, shift, count);
-    }
-    if width == 5 {
-        return put_words(out, at, bytes, len, 5, first, shift, count);
-    }
-    put_words(out, at, bytes, len, width, first, shift, count)
 }
 
 // How many times eight of `count` digits can be written so from byte `first` on.
@@ -214,7 +172,7 @@ fn put_by_words(
     if words == 0 {
         return put_each(out, at, bytes, len, width, BitOffset(index), count);
     }
-    let next = put_words_of(out, at, bytes, len, width, index / 8, index % 8, words);
+    let next = put_words(out, at, bytes, len, width, index / 8, index % 8, words);
     put_each(
         out,
         next,

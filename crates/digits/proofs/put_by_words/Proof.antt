@@ -36,8 +36,8 @@ same-length c = search needs
 returns : tie.Need-returns
 returns c = search needs
 
-put-words-of-requires : tie.Need-put-words-of-requires
-put-words-of-requires c κs =
+put-words-requires : tie.Need-put-words-requires
+put-words-requires c κs =
     let tested = c .before in
     let start = tested .before .before .before .before in
     let some = tested .before .eights .ensures .1 (omega (arith, tested .if1 .left)) in
@@ -69,7 +69,7 @@ put-each-requires-2 c κs =
     let start = counted .before .before .before in
     let a = start .args in
     let digits = run-length (a .bytes .now) (a .len) (a .width) (a .from .0 / 8 * 8 + a .from .0 % 8) (counted .eights .result * 8) in
-    (start .pre .0, omega (arith, rest counted, start .pre .1), omega (arith, put .put-words-of .ensures .next, digits, writes-length (put .put-words-of .ensures), counted .eights .ensures .0, start .pre .2))
+    (start .pre .0, omega (arith, rest counted, start .pre .1), omega (arith, put .put-words .ensures .next, digits, writes-length (put .put-words .ensures), counted .eights .ensures .0, start .pre .2))
 
 same-length-2 : tie.Need-same-length-2
 same-length-2 c = search needs
@@ -85,7 +85,7 @@ returns-2 c =
     let place : i / 8 * 8 + i % 8 ≡ i = omega arith in
     let all : words * 8 + (a .count - words * 8) ≡ a .count = omega (arith, counted .eights .ensures .0) in
     let text = run-append (a .bytes .now) (a .len) (a .width) i (words * 8) (a .count - words * 8) in
-    rw (rw all at text) (writes-then (rw place at (put .put-words-of .ensures)) (last .put-each2 .ensures))
+    rw (rw all at text) (writes-then (rw place at (put .put-words .ensures)) (last .put-each2 .ensures))
 
 pub put-by-words-spec : {M : Type 1} → statement M
 put-by-words-spec =
@@ -95,7 +95,7 @@ put-by-words-spec =
     put-each-requires
     same-length
     returns
-    put-words-of-requires
+    put-words-requires
     mul-t11
     mul-t18
     add-t21

@@ -1,4 +1,4 @@
--- `digits::put_eight` meets its contract: after k turns k digits are written.
+-- `word_digits::put_each` meets its contract: after k turns k digits are written.
 -- Assumes nothing.
 use mathlib.Core.Path.{_≡_, refl}
 use mathlib.Core.List.{[], _∷_}
@@ -14,8 +14,8 @@ use Rattle.output.proofs.Pieces.{pieces-none, pieces-next}
 use Rattle.output.proofs.Writes.{writes-nothing, writes-then, writes-length}
 use Rattle.numbers.specs.declared.Letters.the-variants.{Lower}
 use Rattle.numbers.specs.Digits.{digitChar, digitsOf}
-use Rattle.digits.proofs.put_eight.Statement.{statement}
-use Rattle.digits.proofs.put_eight.Tie as tie
+use Rattle.word_digits.proofs.put_each.Statement.{statement}
+use Rattle.word_digits.proofs.put_each.Tie as tie
 
 -- The base of digits of at most five bits, as a shift computes it.
 base-is : (w : ℕ) → w ≤ 5 → 1 * 2 ^ w % 2 ^ 64 ≡ 2 ^ w
@@ -99,8 +99,8 @@ returns c =
     let done : l .loop .k ≡ 8 = omega arith in
     rw done at (l .loop .inv .2)
 
-pub put-eight-spec : {M : Type 1} → statement M
-put-eight-spec =
+pub put-each-spec : {M : Type 1} → statement M
+put-each-spec =
     tie.close
     (tie.spec
     Inv-loop
