@@ -11,13 +11,13 @@ use lib.Dec.{eqb}
 use lib.ListN.{length, length-append}
 use borrow.Author.Tests.{eqb-true, eqb-false}
 use Rattle.output.specs.Pieces.{pieces}
+use Rattle.output.proofs.Order.{stride}
 use Rattle.output.proofs.Pieces.{pieces-none, pieces-next, pieces-append, pieces-equal, pieces-length}
 use Rattle.bitvec.specs.Bits.{bitsAt, byteAt}
 use Rattle.bitvec.proofs.Bits.{bits-small}
 use Rattle.bitvec.proofs.Words.{bits-within, bits-cut}
 use Rattle.numbers.specs.declared.Letters.the-variants.{Lower}
 use Rattle.numbers.specs.Digits.{digitChar, byteText, digitsOf}
-use Rattle.rows.proofs.Rows.{stride}
 use Rattle.rows.specs.declared.ByteDigits.{ByteDigits}
 use Rattle.rows.specs.declared.ByteDigits.the-variants.{Binary, Hex}
 use Rattle.rows.specs.Rows.{perByte, digitBits, byteDigits, bytesText}

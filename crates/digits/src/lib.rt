@@ -1,25 +1,16 @@
-// The digits of an image, written as text: runs of digits of one width, lines in hexadecimal whose
-// first digit may be short, and the parts that an image is cut into.
+// The digits of an image, written as text: runs of digits of one width, and lines in hexadecimal whose
+// first digit may be short.
 ghost use mathlib.Core.Path.{_≡_};
-ghost use mathlib.Core.Bool.{true, cond};
+ghost use mathlib.Core.Bool.{true};
 ghost use mathlib.Core.List.{[], _∷_};
 ghost use Prim.Native.Nat.{_+_, _*_, _/_, _%_, _≤_, _<_, _^_, min};
-ghost use lib.Dec.{eqb};
 ghost use lib.ListN.{length};
 ghost use Rattle.output.specs.Writes.{Writes};
 ghost use Rattle.rows.specs.Rows.{perByte, digitBits};
-ghost use Rattle.digits.specs.Base.{baseBits};
 ghost use Rattle.digits.specs.Run.{digitAt, run, shortDigit, hexLine};
 use bitvec::BitOffset;
 use numbers::Letters;
 use rows::ByteDigits;
-
-// The smaller of two numbers.
-pub fn least(a: usize, b: usize) -> usize
-    ensures { λ r. ⌜ r ≡ min a b ⌝ }
-{
-    if a < b { a } else { b }
-}
 
 // Stores the digit of `width` bits from `from` on.
 pub fn put_digit(
@@ -147,11 +138,11 @@ fn eights(bytes: &[u8], len: usize, width: usize, first: usize, count: usize) ->
     if width < 1 {
         return 0;
     }
-    let whole = least(len / 8, bytes.len());
+    let whole = output::smaller(len / 8, bytes.len());
     if whole < first + 8 {
         return 0;
     }
-    least(count / 8, (whole - (first + 8)) / width)
+    output::smaller(count / 8, (whole - (first + 8)) / width)
 }
 
 // Stores `count` digits of `width` bits each, from `from` on: by eights, and then one by one.
@@ -224,8 +215,8 @@ fn put_aligned(
     requires room { ⌜ at + count ≤ length (now out) ⌝ }
     ensures { λ r. ⌜ Writes (run (now (bytes .entry)) len width (first * 8) count) (now (out .entry)) at (now (out .exit)) r ⌝ }
 {
-    let most = least(len / 8, bytes.len()) - first;
-    let whole = least(count / per_byte, most);
+    let most = output::smaller(len / 8, bytes.len()) - first;
+    let whole = output::smaller(count / per_byte, most);
     let next = rows::put_bytes(out, at, kind, bytes, len, first, whole);
     put_each(
         out,
@@ -330,39 +321,4 @@ pub fn put_hex_line(
         BitOffset(start + short),
         count / 4,
     )
-}
-
-// The length of a text with one piece for each part of `width` bits: `full` for a whole part, `last`
-// for a short last one.
-pub fn parts_length(len: usize, width: usize, full: usize, last: usize) -> usize
-    requires { ⌜ (0 < width) × (len < 2 ^ 31) × (full < 2 ^ 31) × (last < 2 ^ 31) ⌝ }
-    ensures { λ r. ⌜ r ≡ len / width * full + cond (eqb (len % width) 0) 0 last ⌝ }
-{
-    let whole = len / width * full;
-    if len % width == 0 {
-        return whole;
-    }
-    whole + last
-}
-
-// How many bits a digit has in base 2, 4, 8, 16 or 32, and 0 for what is no base.
-pub fn base_bits(base: usize) -> usize
-    ensures { λ r. ⌜ r ≡ baseBits base ⌝ }
-{
-    if base == 2 {
-        return 1;
-    }
-    if base == 4 {
-        return 2;
-    }
-    if base == 8 {
-        return 3;
-    }
-    if base == 16 {
-        return 4;
-    }
-    if base == 32 {
-        return 5;
-    }
-    0
 }

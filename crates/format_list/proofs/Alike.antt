@@ -17,7 +17,7 @@ use Rattle.rows.specs.declared.ByteDigits.{ByteDigits}
 use Rattle.rows.specs.declared.ByteDigits.the-variants.{Binary, Hex}
 use Rattle.rows.specs.Rows.{perByte, digitBits, bytesText, rowsText}
 use Rattle.rows.proofs.Rows.{rows-next}
-use Rattle.digits.specs.Base.{baseBits}
+use Rattle.bases.specs.Base.{baseBits}
 use Rattle.digits.specs.Run.{run}
 use Rattle.digits.proofs.Run.{bytes-run}
 use Rattle.format_list.specs.declared.FormatListOptions.{FormatListOptions}

@@ -12,7 +12,7 @@ use Rattle.bitvec.specs.Size.{ceilDiv}
 use Rattle.output.specs.Pieces.{pieces, leading, joined}
 use Rattle.output.proofs.Pieces.{pieces-length}
 use Rattle.output.proofs.Joined.{joined-length, either-length}
-use Rattle.digits.specs.Base.{baseBits}
+use Rattle.bases.specs.Base.{baseBits}
 use Rattle.digits.proofs.Run.{run-length}
 use Rattle.format_list.specs.declared.FormatListOptions.{FormatListOptions}
 use Rattle.format_list.specs.List.{groupBits, groupText, betweenGroups, listText}

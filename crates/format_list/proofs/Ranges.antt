@@ -11,7 +11,7 @@ use lib.ListN.{length}
 use borrow.Author.Tests.{eqb-true, eqb-false, not-false}
 use Rattle.outcome.specs.Outcome.{outside, tooLong}
 use Rattle.outcome.proofs.Outcome.{inside, short}
-use Rattle.digits.specs.Base.{baseBits}
+use Rattle.bases.specs.Base.{baseBits}
 use Rattle.format_list.specs.declared.FormatListOptions.{FormatListOptions}
 use Rattle.format_list.specs.List.{badList}
 

@@ -7,7 +7,7 @@ use lib.ListN.{length}
 use Rattle.bitvec.specs.Size.{badSize, ceilDiv}
 use Rattle.output.specs.Pieces.{pieces, joined}
 use Rattle.outcome.specs.Outcome.{Outcome, refused, outside, tooLong, inRoom}
-use Rattle.digits.specs.Base.{baseBits}
+use Rattle.bases.specs.Base.{baseBits}
 use Rattle.digits.specs.Run.{run}
 use Rattle.format_list.specs.declared.FormatListOptions.{FormatListOptions}
 

@@ -11,7 +11,7 @@ ghost use Rattle.output.specs.Pieces.{pieces, joined, leading};
 ghost use Rattle.output.specs.Writes.{Writes};
 ghost use Rattle.outcome.specs.Outcome.{tooLong, Exports};
 ghost use Rattle.rows.specs.Rows.{perByte, digitBits};
-ghost use Rattle.digits.specs.Base.{baseBits};
+ghost use Rattle.bases.specs.Base.{baseBits};
 ghost use Rattle.format_list.specs.List.{groupBits, groupText, betweenGroups, alike, listText, badList, listOutcome};
 use bitvec::BitOffset;
 use outcome::Export;
@@ -60,7 +60,7 @@ fn bad_list(
 ) -> bool
     ensures { λ r. ⌜ r ≡ badList options (now (before .entry)) (now (after .entry)) (now (between .entry)) (now (between2 .entry)) ⌝ }
 {
-    if digits::base_bits(options.base) == 0 {
+    if bases::base_bits(options.base) == 0 {
         return true;
     }
     if outcome::outside(1, 64, options.digits_per_group) {
@@ -179,7 +179,7 @@ fn put_alike(
 {
     let more = count - 1;
     let next = rows::put_rows(out, at, kind, image, bits, k * wide, wide, between, more);
-    let width = digits::base_bits(options.base);
+    let width = bases::base_bits(options.base);
     let from = (k + more) * (wide * 8);
     digits::put_run(
         out,
@@ -389,7 +389,7 @@ pub fn format_list(
     if bad_list(options, before, after, between, between2) {
         return Export::OptionRange;
     }
-    let width = digits::base_bits(options.base);
+    let width = bases::base_bits(options.base);
     let count = bitvec::parts(bits, options.digits_per_group * width);
     let strings = strings_length(options, count, between, between2);
     let needed = before.len() + (strings + count * options.digits_per_group) + after.len();

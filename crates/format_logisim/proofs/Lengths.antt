@@ -15,7 +15,7 @@ use Rattle.output.specs.Ascii.{ascii}
 use Rattle.output.specs.Pieces.{pieces, every}
 use Rattle.output.proofs.Order.{by-order}
 use Rattle.output.proofs.Joined.{every-length}
-use Rattle.digits.specs.Parts.{partBits}
+use Rattle.image_parts.specs.Parts.{partBits}
 use Rattle.digits.proofs.Run.{line-length}
 use Rattle.format_logisim.specs.Logisim.{chunkText, chunkAt, breaks}
 

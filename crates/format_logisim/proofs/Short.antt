@@ -17,7 +17,7 @@ use Rattle.numbers.specs.Digits.{digitChar}
 use Rattle.eight_chars.specs.Word.{lowBytes}
 use Rattle.output.proofs.Exhaust.{all, same, exhaust}
 use Rattle.digits.specs.Run.{digitAt, run, shortDigit, hexLine}
-use Rattle.digits.specs.Parts.{partBits}
+use Rattle.image_parts.specs.Parts.{partBits}
 use Rattle.format_logisim.specs.Logisim.{chunkText, chunkAt}
 use Rattle.format_logisim.specs.Short.{digitOf, spacedDigits, brokenDigits, byteChunks}
 use Rattle.format_logisim.proofs.Whole.{every-none, every-whole}

@@ -14,9 +14,10 @@ use Rattle.output.specs.Pieces.{pieces, every}
 use Rattle.output.proofs.Pieces.{pieces-next, pieces-append, pieces-equal}
 use Rattle.rows.specs.declared.ByteDigits.the-variants.{Hex}
 use Rattle.rows.specs.Rows.{bytesText, rowsText}
-use Rattle.rows.proofs.Rows.{stride, rows-next}
+use Rattle.output.proofs.Order.{stride}
+use Rattle.rows.proofs.Rows.{rows-next}
 use Rattle.digits.specs.Run.{shortDigit, hexLine}
-use Rattle.digits.specs.Parts.{partBits}
+use Rattle.image_parts.specs.Parts.{partBits}
 use Rattle.digits.proofs.Run.{bytes-run}
 use Rattle.format_logisim.specs.Logisim.{chunkText, chunkAt, logisimText}
 

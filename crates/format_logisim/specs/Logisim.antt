@@ -8,7 +8,7 @@ use Rattle.output.specs.Ascii.{ascii}
 use Rattle.output.specs.Pieces.{pieces, every}
 use Rattle.outcome.specs.Outcome.{Outcome, refused, outside, inRoom}
 use Rattle.digits.specs.Run.{hexLine}
-use Rattle.digits.specs.Parts.{partBits}
+use Rattle.image_parts.specs.Parts.{partBits}
 
 -- A chunk of m bits from bit i on, in hexadecimal with the short digit first, and a space; then a newline where (bits written / 8) mod
 -- 16 is 0, so also after each chunk that ends below bit 8.

@@ -114,7 +114,7 @@ fn put_chunks(
     let mut next = at;
     let mut i = first;
     while i < chunks {
-        let count = digits::least(width, bits - offset);
+        let count = output::smaller(width, bits - offset);
         next = put_chunk(out, next, image, bits, BitOffset(offset), count);
         offset += width;
         i += 1;

@@ -9,9 +9,9 @@ use lib.Dec.{eqb}
 use lib.ListN.{length, length-append}
 use Rattle.bitvec.specs.Size.{ceilDiv}
 use Rattle.output.specs.Ascii.{ascii}
-use Rattle.digits.specs.Parts.{partBits}
+use Rattle.image_parts.specs.Parts.{partBits}
 use Rattle.digits.proofs.Run.{run-length, line-length}
-use Rattle.digits.proofs.Parts.{parts-length}
+use Rattle.image_parts.proofs.Parts.{parts-length}
 use Rattle.format_readmem.specs.declared.Readmem.{Readmem}
 use Rattle.format_readmem.specs.declared.Readmem.the-variants.{Binary, Hex}
 use Rattle.format_readmem.specs.Readmem.{lineText, lineAt, readmemText}

@@ -12,9 +12,9 @@ use Rattle.output.specs.Ascii.{ascii}
 use Rattle.output.specs.Pieces.{pieces}
 use Rattle.output.proofs.Pieces.{pieces-append, pieces-equal}
 use Rattle.rows.specs.Rows.{bytesText, rowsText}
-use Rattle.rows.proofs.Rows.{stride}
+use Rattle.output.proofs.Order.{stride}
 use Rattle.digits.specs.Run.{run, shortDigit, hexLine}
-use Rattle.digits.specs.Parts.{partBits}
+use Rattle.image_parts.specs.Parts.{partBits}
 use Rattle.digits.proofs.Run.{bytes-run}
 use Rattle.format_readmem.specs.declared.Readmem.{Readmem}
 use Rattle.format_readmem.specs.declared.Readmem.the-variants.{Binary, Hex}

@@ -9,7 +9,7 @@ use Rattle.outcome.specs.Outcome.{Outcome, refused, outside, inRoom}
 use Rattle.rows.specs.declared.ByteDigits.{ByteDigits}
 use Rattle.rows.specs.declared.ByteDigits.the-variants as Bytes
 use Rattle.digits.specs.Run.{run, hexLine}
-use Rattle.digits.specs.Parts.{partBits}
+use Rattle.image_parts.specs.Parts.{partBits}
 use Rattle.format_readmem.specs.declared.Readmem.{Readmem}
 use Rattle.format_readmem.specs.declared.Readmem.the-variants.{Binary, Hex}
 

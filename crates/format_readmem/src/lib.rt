@@ -37,7 +37,7 @@ fn readmem_length(kind: Readmem, bits: usize, width: usize) -> usize
 {
     let full = line_length(kind, width) + 1;
     let last = line_length(kind, bits % width) + 1;
-    digits::parts_length(bits, width, full, last)
+    image_parts::parts_length(bits, width, full, last)
 }
 
 // Stores a line of `count` bits from `from` on.
@@ -78,7 +78,7 @@ fn put_lines(
     let mut next = at;
     let mut i = first;
     while i < lines {
-        let count = digits::least(width, bits - offset);
+        let count = output::smaller(width, bits - offset);
         next = put_line(out, next, kind, image, bits, BitOffset(offset), count);
         next = output::put(out, next, b'\n');
         offset += width;

@@ -5,10 +5,10 @@ use bitvec::BitOffset;
 use bitvec::UnitAddress;
 use bitvec::parts;
 use bitvec::read_across;
-use digits::least;
 use hex_records::put_record;
 use output::put;
 use output::put_all;
+use output::smaller;
 use std::num::wrapping_add_u8;
 use std::num::wrapping_sub_u8;
 ghost use mathlib.Core.Path.{_≡_};
@@ -164,7 +164,7 @@ fn put_records(
     for n in 0..records {
         let from = offset + 256 * n;
         let address = BitOffset(from).address(unit);
-        let held = least(32, count - 32 * n);
+        let held = smaller(32, count - 32 * n);
         next = put_record(bytes, len, BitOffset(from), address, held, out, next);
     }
     next

@@ -18,7 +18,7 @@ use Rattle.outcome.proofs.Outcome.{inside}
 use Rattle.numbers.specs.declared.Letters.the-variants.{Lower}
 use Rattle.numbers.specs.Digits.{digitCount, numberText}
 use Rattle.numbers.proofs.Digits.{count-last, count-more, number-length, padded-length}
-use Rattle.digits.specs.Base.{baseBits}
+use Rattle.bases.specs.Base.{baseBits}
 use Rattle.ordering.specs.Order.{absent}
 use Rattle.listing.specs.declared.FormatAnnotatedOptions.{FormatAnnotatedOptions}
 use Rattle.listing.specs.declared.Widths.{Widths}

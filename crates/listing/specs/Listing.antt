@@ -16,7 +16,7 @@ use Rattle.output.specs.Pieces.{joined, every}
 use Rattle.outcome.specs.Outcome.{outside}
 use Rattle.numbers.specs.declared.Letters.the-variants.{Lower}
 use Rattle.numbers.specs.Digits.{digitCount, numberText, padded}
-use Rattle.digits.specs.Base.{baseBits}
+use Rattle.bases.specs.Base.{baseBits}
 use Rattle.digits.specs.Run.{digitAt}
 use Rattle.ordering.specs.Order.{absent, inOrder}
 use Rattle.sources.specs.Sources.{excerptOf}

@@ -31,7 +31,7 @@ pub struct Widths {
 pub fn bad_annotated(options: FormatAnnotatedOptions) -> bool
     ensures { λ r. ⌜ r ≡ badAnnotated options ⌝ }
 {
-    if digits::base_bits(options.base) == 0 {
+    if bases::base_bits(options.base) == 0 {
         return true;
     }
     if outcome::outside(2, 36, options.addr_base) {
@@ -60,7 +60,7 @@ fn content_need(options: FormatAnnotatedOptions, size: u32) -> usize
     requires { ⌜ badAnnotated options ≡ false ⌝ }
     ensures { λ r. ⌜ (r ≡ contentNeed options size) × (r ≤ 324) ⌝ }
 {
-    let digits = bitvec::parts(size as usize, digits::base_bits(options.base));
+    let digits = bitvec::parts(size as usize, bases::base_bits(options.base));
     let wide = digits + digits / options.digits_per_group;
     if wide < 2 {
         return 0;

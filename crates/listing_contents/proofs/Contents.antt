@@ -9,7 +9,7 @@ use Rattle.output.specs.Ascii.{ascii}
 use Rattle.output.specs.Pieces.{every}
 use Rattle.output.proofs.Joined.{joined-length, every-length, between-length}
 use Rattle.output.proofs.Pieces.{pieces-length}
-use Rattle.digits.specs.Base.{baseBits}
+use Rattle.bases.specs.Base.{baseBits}
 use Rattle.listing.specs.declared.FormatAnnotatedOptions.{FormatAnnotatedOptions}
 use Rattle.listing.specs.Listing.{contentDigits, contentDigit, contents}
 

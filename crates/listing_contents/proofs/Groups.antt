@@ -16,7 +16,7 @@ use Rattle.bitvec.proofs.Bits.{bits-small}
 use Rattle.rows.specs.declared.ByteDigits.{ByteDigits}
 use Rattle.rows.specs.declared.ByteDigits.the-variants.{Binary, Hex}
 use Rattle.rows.specs.Rows.{perByte, digitBits, byteDigits, rowsText}
-use Rattle.rows.proofs.Rows.{stride}
+use Rattle.output.proofs.Order.{stride}
 use Rattle.digits.specs.Run.{digitAt, run}
 use Rattle.digits.proofs.Run.{run-length, run-number, byte-digits, bytes-run}
 use Rattle.listing.specs.Listing.{contentDigit}

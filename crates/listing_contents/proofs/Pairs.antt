@@ -13,7 +13,7 @@ use Rattle.numbers.specs.declared.Letters.the-variants.{Lower}
 use Rattle.numbers.specs.Digits.{byteText}
 use Rattle.rows.specs.declared.ByteDigits.the-variants.{Hex}
 use Rattle.rows.specs.Rows.{byteDigits}
-use Rattle.digits.specs.Base.{baseBits}
+use Rattle.bases.specs.Base.{baseBits}
 use Rattle.digits.specs.Run.{run}
 use Rattle.listing.specs.declared.FormatAnnotatedOptions.{FormatAnnotatedOptions}
 use Rattle.listing.specs.Listing.{contentDigits, contents}

@@ -237,7 +237,7 @@ fn put_any(
     requires { ⌜ (badAnnotated options ≡ false) × (at + length (contents options (now image) bits offset size) ≤ length (now out)) ⌝ }
     ensures { λ r. ⌜ Writes (contents options (now (image .entry)) bits offset size) (now (out .entry)) at (now (out .exit)) r ⌝ }
 {
-    let width = digits::base_bits(options.base);
+    let width = bases::base_bits(options.base);
     let group = options.digits_per_group;
     let count = bitvec::parts(size as usize, width);
     let start = offset as usize;
@@ -352,7 +352,7 @@ pub fn contents_length(options: FormatAnnotatedOptions, size: u32) -> usize
     }
     spaced_length(
         size,
-        digits::base_bits(options.base),
+        bases::base_bits(options.base),
         options.digits_per_group,
     )
 }

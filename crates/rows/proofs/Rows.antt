@@ -16,10 +16,6 @@ use Rattle.rows.specs.declared.ByteDigits.{ByteDigits}
 use Rattle.rows.specs.declared.ByteDigits.the-variants.{Binary, Hex}
 use Rattle.rows.specs.Rows.{perByte, byteDigits, bytesText, rowsText}
 
--- One part more is within a number of parts that is larger.
-pub stride : (k n w : ℕ) → k < n → k * w + w ≤ n * w
-stride k n w h = rw (← suc-mul k w) (mul-le-mul-right w h)
-
 pub byte-length : (kind : ByteDigits) (b : ℕ) → length (byteDigits kind b) ≡ perByte kind
 unfolding byteDigits byteText
 byte-length Binary b = digits-length 1 8 b

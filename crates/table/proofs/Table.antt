@@ -9,8 +9,8 @@ use Rattle.output.specs.Pieces.{pieces, leading, joined, every}
 use Rattle.outcome.specs.Outcome.{text, outside, tooLong}
 use Rattle.numbers.specs.Digits.{digitChar, byteText}
 use Rattle.digits.specs.Run.{digitAt, run, shortDigit, hexLine}
-use Rattle.digits.specs.Parts.{partBits}
-use Rattle.digits.specs.Base.{baseBits}
+use Rattle.image_parts.specs.Parts.{partBits}
+use Rattle.bases.specs.Base.{baseBits}
 use Rattle.ordering.specs.Lists.{table as numbered, first}
 use Rattle.ordering.specs.Order.{put-in, ordered, rank, inOrder}
 use Rattle.span_range.specs.Range.{longList, badSpan, faultAt}

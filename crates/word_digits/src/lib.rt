@@ -1,5 +1,5 @@
-// The eight digits that a number ends with. Those of 3 and of 5 bits, which divide no byte, are computed
-// in one word by fixed shifts, the first digit in its lowest byte, and stored at once.
+// The eight digits that a number ends with. Those of 3 and of 5 bits are computed in one word by fixed
+// shifts and masks, the first digit in its lowest byte, and stored at once.
 ghost use mathlib.Core.Path.{_≡_};
 ghost use mathlib.Core.List.{[], _∷_};
 ghost use Prim.Native.Nat.{_+_, _≤_, _<_};

@@ -14,8 +14,8 @@ le-of-eq-min r a b e = omega (arith, e)
 returns : tie.Need-returns
 returns c = (omega arith, λ h. absurd (omega arith))
 
-least-requires : tie.Need-least-requires
-least-requires c κs = search needs
+smaller-requires : tie.Need-smaller-requires
+smaller-requires c κs = search needs
 
 add-if2 : tie.Need-add-if2
 add-if2 c = search needs
@@ -23,26 +23,26 @@ add-if2 c = search needs
 returns-2 : tie.Need-returns-2
 returns-2 c = (omega arith, λ h. absurd (omega arith))
 
-add-least : tie.Need-add-least
-add-least c = search needs
+add-smaller : tie.Need-add-smaller
+add-smaller c = search needs
 
-sub-least : tie.Need-sub-least
-sub-least c = search needs
+sub-smaller : tie.Need-sub-smaller
+sub-smaller c = search needs
 
-div-least : tie.Need-div-least
-div-least c = search needs
+div-smaller : tie.Need-div-smaller
+div-smaller c = search needs
 
-least-requires-2 : tie.Need-least-requires-2
-least-requires-2 c κs = search needs
+smaller-requires-2 : tie.Need-smaller-requires-2
+smaller-requires-2 c κs = search needs
 
 returns-3 : tie.Need-returns-3
 returns-3 c =
-    let most = c .least2 .ensures in
-    let whole = c .before .before .least .ensures in
+    let most = c .smaller2 .ensures in
+    let whole = c .before .before .smaller .ensures in
     let start = c .before .before .before .before .before in
     let a = start .args in
-    let rest = c .before .before .least .result - (a .first + 8) in
-    let words = mul-le-mul-right (a .width) (le-of-eq-min (c .least2 .result) (a .count / 8) (rest / a .width) most) in
+    let rest = c .before .before .smaller .result - (a .first + 8) in
+    let words = mul-le-mul-right (a .width) (le-of-eq-min (c .smaller2 .result) (a .count / 8) (rest / a .width) most) in
     let held = div-mul-le-self rest (a .width) in
     let left = c .before .if2 .left in
     (omega (arith, most), λ h. (omega (arith, words, held, whole, left), omega (arith, words, held, whole, left), omega (arith, c .before .before .before .if1 .left)))
@@ -52,11 +52,11 @@ eights-spec =
     tie.close
     (tie.spec
     returns
-    least-requires
+    smaller-requires
     add-if2
     returns-2
-    add-least
-    sub-least
-    div-least
-    least-requires-2
+    add-smaller
+    sub-smaller
+    div-smaller
+    smaller-requires-2
     returns-3)

@@ -11,26 +11,26 @@ use Rattle.digits.proofs.put_aligned.Statement.{statement}
 use Rattle.digits.proofs.put_aligned.Tie as tie
 
 -- the whole bytes that are written have no more digits than there are
-within : (c : tie.After-least2)
-    → (let a = c .before .before .before .before .args in c .least2 .result * perByte (a .kind) ≤ a .count)
+within : (c : tie.After-smaller2)
+    → (let a = c .before .before .before .before .args in c .smaller2 .result * perByte (a .kind) ≤ a .count)
 within c =
     let start = c .before .before .before .before in
-    let whole = c .least2 .ensures in
-    whole-digits (start .args .kind) (c .least2 .result) (start .args .count) (rw (← start .pre .0 .1) (omega (arith, whole)))
+    let whole = c .smaller2 .ensures in
+    whole-digits (start .args .kind) (c .smaller2 .result) (start .args .count) (rw (← start .pre .0 .1) (omega (arith, whole)))
 
-least-requires : tie.Need-least-requires
-least-requires c κs = search needs
+smaller-requires : tie.Need-smaller-requires
+smaller-requires c κs = search needs
 
 sub-most : tie.Need-sub-most
 sub-most c = search needs
 
-div-least : tie.Need-div-least
-div-least c =
+div-smaller : tie.Need-div-smaller
+div-smaller c =
     let start = c .before .before .before in
     rw (start .pre .0 .1) (per-some (start .args .kind))
 
-least-requires-2 : tie.Need-least-requires-2
-least-requires-2 c κs = search needs
+smaller-requires-2 : tie.Need-smaller-requires-2
+smaller-requires-2 c κs = search needs
 
 put-bytes-requires : tie.Need-put-bytes-requires
 put-bytes-requires c κs =
@@ -38,8 +38,8 @@ put-bytes-requires c κs =
     let start = counted .before .before .before .before in
     let a = start .args in
     let digits = within counted in
-    let most = counted .before .least .ensures in
-    let whole = counted .least2 .ensures in
+    let most = counted .before .smaller .ensures in
+    let whole = counted .smaller2 .ensures in
     ((omega (arith, most, whole, start .pre .1 .0 .0), omega (arith, most, whole, start .pre .1 .0 .1)), omega (arith, digits, start .pre .1 .1))
 
 add-t15 : tie.Need-add-t15
@@ -66,7 +66,7 @@ put-each-requires c κs =
     let counted = put .before .before in
     let start = counted .before .before .before .before in
     let a = start .args in
-    let whole = counted .least2 .result in
+    let whole = counted .smaller2 .result in
     let digits = within counted in (
       rw (start .pre .0 .0) (bits-few (a .kind)),
       rw (start .pre .0 .0, start .pre .0 .1) (omega (arith, rest-bits (a .kind) (a .first) whole (a .count) digits, rw (start .pre .0 .0) at (start .pre .1 .0 .2))),
@@ -83,7 +83,7 @@ returns c =
     let counted = put .before .before in
     let start = counted .before .before .before .before in
     let a = start .args in
-    let whole = counted .least2 .result in
+    let whole = counted .smaller2 .result in
     rw (start .pre .0 .0, bytes-rest (a .kind) (a .bytes .now) (a .len) (a .first) whole (a .count) (within counted))
     (writes-then (put .put-bytes .ensures) (rw (start .pre .0 .0, start .pre .0 .1) at (rest .put-each .ensures)))
 
@@ -91,10 +91,10 @@ pub put-aligned-spec : {M : Type 1} → statement M
 put-aligned-spec =
     tie.close
     (tie.spec
-    least-requires
+    smaller-requires
     sub-most
-    div-least
-    least-requires-2
+    div-smaller
+    smaller-requires-2
     put-bytes-requires
     add-t15
     mul-t13

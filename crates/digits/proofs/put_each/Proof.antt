@@ -7,10 +7,10 @@ use native.Mathlib.Omega.{arith}
 use lib.ListN.{length}
 use borrow.Author.Needs.{needs}
 use Rattle.output.specs.Writes.{Writes}
+use Rattle.output.proofs.Order.{stride}
 use Rattle.output.proofs.Writes.{writes-nothing, writes-then}
 use Rattle.digits.specs.Run.{run}
 use Rattle.digits.proofs.Run.{run-none, run-next}
-use Rattle.digits.proofs.Parts.{stride}
 use Rattle.digits.proofs.put_each.Statement.{statement}
 use Rattle.digits.proofs.put_each.Tie as tie
 

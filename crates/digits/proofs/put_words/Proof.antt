@@ -7,9 +7,9 @@ use native.Mathlib.Omega.{arith}
 use lib.ListN.{length}
 use borrow.Author.Needs.{needs}
 use Rattle.output.specs.Writes.{Writes}
+use Rattle.output.proofs.Order.{stride}
 use Rattle.output.proofs.Writes.{writes-nothing, writes-then, writes-length}
 use Rattle.numbers.proofs.Digits.{digits-length}
-use Rattle.rows.proofs.Rows.{stride}
 use Rattle.digits.specs.Run.{run}
 use Rattle.digits.proofs.Run.{run-none, run-append, word-run}
 use Rattle.digits.proofs.put_words.Statement.{statement}

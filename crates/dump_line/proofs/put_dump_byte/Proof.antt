@@ -9,9 +9,9 @@ use lib.ListN.{length}
 use borrow.Author.Needs.{needs}
 use Rattle.output.specs.Pieces.{pieces}
 use Rattle.output.specs.Writes.{Writes}
+use Rattle.output.proofs.Order.{stride}
 use Rattle.output.proofs.Pieces.{pieces-none, pieces-next}
 use Rattle.output.proofs.Writes.{writes-nothing, writes-then}
-use Rattle.digits.proofs.Parts.{stride}
 use Rattle.dump_line.specs.Line.{dumpDigit, dumpByte}
 use Rattle.dump_line.proofs.put_dump_byte.Statement.{statement}
 use Rattle.dump_line.proofs.put_dump_byte.Tie as tie

@@ -11,10 +11,10 @@ use borrow.Author.Tests.{not-true, not-false}
 use borrow.Author.Needs.{needs}
 use Rattle.bitvec.specs.Size.{badSize}
 use Rattle.bitvec.proofs.Size.{size-good}
+use Rattle.output.proofs.Order.{stride}
 use Rattle.outcome.proofs.Outcome.{exports-text, exports-no-room}
 use Rattle.numbers.specs.Digits.{digitCount}
 use Rattle.numbers.proofs.Digits.{count-small, count-some, count-rises}
-use Rattle.digits.proofs.Parts.{stride}
 use Rattle.dump_line.proofs.Lengths.{line-length, columns-small}
 use Rattle.format_dump.specs.Dump.{inRange, dumpText, dumpOutcome}
 use Rattle.format_dump.proofs.Lengths.{text-length, lines-some, lines-reach}

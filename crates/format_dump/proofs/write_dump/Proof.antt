@@ -9,11 +9,11 @@ use lib.ListN.{length}
 use borrow.Author.Needs.{needs}
 use Rattle.output.specs.Pieces.{pieces}
 use Rattle.output.specs.Writes.{Writes}
+use Rattle.output.proofs.Order.{stride}
 use Rattle.output.proofs.Pieces.{pieces-none, pieces-next, pieces-room}
 use Rattle.output.proofs.Writes.{writes-nothing, writes-then}
 use Rattle.numbers.specs.Digits.{digitCount}
 use Rattle.numbers.proofs.Digits.{count-rises}
-use Rattle.digits.proofs.Parts.{stride}
 use Rattle.dump_line.specs.Line.{dumpLine}
 use Rattle.format_dump.specs.Dump.{dumpText}
 use Rattle.format_dump.proofs.Lengths.{text-lines, lines-reach}

@@ -6,7 +6,7 @@ use lib.Dec.{eqb}
 use borrow.Author.Tests.{eq-eqb, ne-eqb, lt-ltb, le-ltb}
 use borrow.Author.Needs.{needs}
 use Rattle.outcome.specs.Outcome.{outside}
-use Rattle.digits.specs.Base.{baseBits}
+use Rattle.bases.specs.Base.{baseBits}
 use Rattle.format_list.specs.List.{badList}
 use Rattle.format_list.proofs.bad_list.Statement.{statement}
 use Rattle.format_list.proofs.bad_list.Tie as tie

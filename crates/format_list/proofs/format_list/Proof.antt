@@ -10,7 +10,7 @@ use borrow.Author.Needs.{needs}
 use Rattle.bitvec.specs.Size.{badSize, ceilDiv}
 use Rattle.bitvec.proofs.Size.{size-good, ceil-reach, ceil-most}
 use Rattle.outcome.proofs.Outcome.{exports-text, exports-no-room}
-use Rattle.digits.proofs.Base.{base-small}
+use Rattle.bases.proofs.Base.{base-small}
 use Rattle.format_list.specs.List.{groupBits, listText, badList, listOutcome}
 use Rattle.format_list.proofs.Lengths.{list-parts}
 use Rattle.format_list.proofs.Ranges.{Ranges, ranges}

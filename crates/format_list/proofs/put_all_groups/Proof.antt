@@ -8,7 +8,7 @@ use Rattle.bitvec.specs.Size.{ceilDiv}
 use Rattle.bitvec.proofs.Size.{ceil-inside}
 use Rattle.rows.specs.declared.ByteDigits.the-variants.{Binary, Hex}
 use Rattle.rows.specs.Rows.{perByte, digitBits}
-use Rattle.digits.specs.Base.{baseBits}
+use Rattle.bases.specs.Base.{baseBits}
 use Rattle.format_list.specs.List.{groupBits}
 use Rattle.format_list.proofs.Alike.{group-bits}
 use Rattle.format_list.proofs.put_all_groups.Statement.{statement}

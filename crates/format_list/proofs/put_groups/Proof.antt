@@ -9,9 +9,9 @@ use borrow.Author.Needs.{needs}
 use Rattle.output.specs.Pieces.{leading, joined}
 use Rattle.output.specs.Writes.{Writes}
 use Rattle.output.proofs.Joined.{joined-none, joined-next, joined-room}
+use Rattle.output.proofs.Order.{stride}
 use Rattle.output.proofs.Writes.{writes-nothing, writes-then}
-use Rattle.digits.proofs.Base.{base-small}
-use Rattle.digits.proofs.Parts.{stride}
+use Rattle.bases.proofs.Base.{base-small}
 use Rattle.format_list.specs.List.{groupBits, groupText, betweenGroups}
 use Rattle.format_list.proofs.Lengths.{group-length}
 use Rattle.format_list.proofs.put_groups.Statement.{statement}

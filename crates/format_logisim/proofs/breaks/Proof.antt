@@ -6,7 +6,7 @@ use native.Mathlib.Nat.{zero-mul, suc-mul, mul-le-mul}
 use native.Mathlib.Omega.{arith}
 use lib.Dec.{eqb}
 use borrow.Author.Needs.{needs}
-use Rattle.rows.proofs.Rows.{stride}
+use Rattle.output.proofs.Order.{stride}
 use Rattle.format_logisim.specs.Logisim.{breaks}
 use Rattle.format_logisim.proofs.Lengths.{one-most, breaks-none, breaks-next}
 use Rattle.format_logisim.proofs.breaks.Statement.{statement}

@@ -9,7 +9,7 @@ use lib.ListN.{length-append}
 use borrow.Author.Needs.{needs}
 use Rattle.output.specs.Pieces.{pieces}
 use Rattle.output.proofs.Pieces.{pieces-next}
-use Rattle.digits.specs.Parts.{partBits}
+use Rattle.image_parts.specs.Parts.{partBits}
 use Rattle.format_logisim.specs.Logisim.{chunkAt, breaks}
 use Rattle.format_logisim.proofs.Lengths.{chunk-most, breaks-most, whole-length, one-more}
 use Rattle.format_logisim.proofs.chunks_length.Statement.{statement}

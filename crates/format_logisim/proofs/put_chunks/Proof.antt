@@ -12,7 +12,7 @@ use Rattle.output.specs.Pieces.{pieces}
 use Rattle.output.specs.Writes.{Writes}
 use Rattle.output.proofs.Pieces.{pieces-none, pieces-next, pieces-room}
 use Rattle.output.proofs.Writes.{writes-nothing, writes-then}
-use Rattle.digits.specs.Parts.{partBits}
+use Rattle.image_parts.specs.Parts.{partBits}
 use Rattle.format_logisim.specs.Logisim.{chunkText, chunkAt}
 use Rattle.format_logisim.proofs.put_chunks.Statement.{statement}
 use Rattle.format_logisim.proofs.put_chunks.Tie as tie
@@ -51,10 +51,10 @@ room c =
     omega (arith, all, l .loop .inv .3 .next, start .pre .1)
 
 -- the chunk that the code writes
-written : (c : tie.After-least Inv-loop μ-loop)
-    → (let a = c .before .before .before .before .before .args in chunkText (a .image .now) (a .bits) (c .before .before .loop .offset) (c .least .result)) ≡ chunk (c .before)
+written : (c : tie.After-smaller Inv-loop μ-loop)
+    → (let a = c .before .before .before .before .before .args in chunkText (a .image .now) (a .bits) (c .before .before .loop .offset) (c .smaller .result)) ≡ chunk (c .before)
 unfolding partBits
-written c = rw (c .least .ensures, c .before .before .loop .inv .2)
+written c = rw (c .smaller .ensures, c .before .before .loop .inv .2)
 
 mul-offset : tie.Need-mul-offset Inv-loop μ-loop
 mul-offset c =
@@ -68,11 +68,11 @@ loop-holds c =
     let none : start .args .first - start .args .first ≡ 0 = omega arith in
     (start .pre .0 .4, omega arith, refl, rw (none, pieces-none) (writes-nothing _ _), refl)
 
-sub-least : tie.Need-sub-least Inv-loop μ-loop
-sub-least c = omega (arith, starts c)
+sub-smaller : tie.Need-sub-smaller Inv-loop μ-loop
+sub-smaller c = omega (arith, starts c)
 
-least-requires : tie.Need-least-requires Inv-loop μ-loop
-least-requires c κs = search needs
+smaller-requires : tie.Need-smaller-requires Inv-loop μ-loop
+smaller-requires c κs = search needs
 
 put-chunk-requires : tie.Need-put-chunk-requires Inv-loop μ-loop
 put-chunk-requires c κs =
@@ -122,8 +122,8 @@ put-chunks-spec =
     μ-loop
     mul-offset
     loop-holds
-    sub-least
-    least-requires
+    sub-smaller
+    smaller-requires
     put-chunk-requires
     add-offset
     add-i

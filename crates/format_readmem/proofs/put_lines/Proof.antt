@@ -13,7 +13,7 @@ use Rattle.output.specs.Pieces.{pieces}
 use Rattle.output.specs.Writes.{Writes}
 use Rattle.output.proofs.Pieces.{pieces-none, pieces-next, pieces-room}
 use Rattle.output.proofs.Writes.{writes-nothing, writes-then}
-use Rattle.digits.specs.Parts.{partBits}
+use Rattle.image_parts.specs.Parts.{partBits}
 use Rattle.format_readmem.specs.Readmem.{lineText, lineAt}
 use Rattle.format_readmem.proofs.put_lines.Statement.{statement}
 use Rattle.format_readmem.proofs.put_lines.Tie as tie
@@ -54,10 +54,10 @@ room c =
     omega (arith, all, l .loop .inv .3 .next, start .pre .1)
 
 -- the line that the code writes
-written : (c : tie.After-least Inv-loop μ-loop)
-    → (let a = c .before .before .before .before .before .args in lineText (a .kind) (a .image .now) (a .bits) (c .before .before .loop .offset) (c .least .result)) ≡ line (c .before)
+written : (c : tie.After-smaller Inv-loop μ-loop)
+    → (let a = c .before .before .before .before .before .args in lineText (a .kind) (a .image .now) (a .bits) (c .before .before .loop .offset) (c .smaller .result)) ≡ line (c .before)
 unfolding partBits
-written c = rw (c .least .ensures, c .before .before .loop .inv .2)
+written c = rw (c .smaller .ensures, c .before .before .loop .inv .2)
 
 loop-holds : tie.Need-loop-holds Inv-loop μ-loop
 loop-holds c =
@@ -71,11 +71,11 @@ mul-offset c =
     let a = start .args in
     record { fits = omega (arith, mul-le-mul-right (a .width) (start .pre .0 .4), start .pre .0 .3, ceil-reach (a .bits) (a .width), rw (← start .pre .0 .3) at (ceil-reach (a .bits) (a .width)), start .pre .0 .1, start .pre .0 .2) }
 
-sub-least : tie.Need-sub-least Inv-loop μ-loop
-sub-least c = omega (arith, starts c)
+sub-smaller : tie.Need-sub-smaller Inv-loop μ-loop
+sub-smaller c = omega (arith, starts c)
 
-least-requires : tie.Need-least-requires Inv-loop μ-loop
-least-requires c κs = search needs
+smaller-requires : tie.Need-smaller-requires Inv-loop μ-loop
+smaller-requires c κs = search needs
 
 put-line-requires : tie.Need-put-line-requires Inv-loop μ-loop
 put-line-requires c κs =
@@ -133,8 +133,8 @@ put-lines-spec =
     μ-loop
     mul-offset
     loop-holds
-    sub-least
-    least-requires
+    sub-smaller
+    smaller-requires
     put-line-requires
     put-requires
     add-offset

@@ -55,22 +55,22 @@ add-from c = record { fits = omega (arith, inside c, c .before .before .before .
 address-requires : tie.Need-address-requires Inv-loop μ-loop
 address-requires c κs = search needs
 
-mul-least : tie.Need-mul-least Inv-loop μ-loop
-mul-least c = record { fits = omega (arith, inside (c .before), c .before .before .before .before .before .before .before .pre .0 .2) }
+mul-smaller : tie.Need-mul-smaller Inv-loop μ-loop
+mul-smaller c = record { fits = omega (arith, inside (c .before), c .before .before .before .before .before .before .before .pre .0 .2) }
 
-sub-least : tie.Need-sub-least Inv-loop μ-loop
-sub-least c = omega (arith, inside (c .before))
+sub-smaller : tie.Need-sub-smaller Inv-loop μ-loop
+sub-smaller c = omega (arith, inside (c .before))
 
 -- The record of this turn is the plan's.
-planned : (c : tie.After-least Inv-loop μ-loop) →
+planned : (c : tie.After-smaller Inv-loop μ-loop) →
     let a = c .before .before .before .before .before .before .before .before .args in
     let l = c .before .before .before .loop in
-    record { address = c .before .address .result .0; from = a .offset + 256 * l .n; count = c .least .result } ≡ chunkAt (a .unit) (record { offset = a .offset; size = a .size }) (l .n)
+    record { address = c .before .address .result .0; from = a .offset + 256 * l .n; count = c .smaller .result } ≡ chunkAt (a .unit) (record { offset = a .offset; size = a .size }) (l .n)
 unfolding chunkAt
-planned c = rw (c .before .address .ensures, c .least .ensures, c .before .before .before .before .before .parts .ensures)
+planned c = rw (c .before .address .ensures, c .smaller .ensures, c .before .before .before .before .before .parts .ensures)
 
-least-requires : tie.Need-least-requires Inv-loop μ-loop
-least-requires c κs = search needs
+smaller-requires : tie.Need-smaller-requires Inv-loop μ-loop
+smaller-requires c κs = search needs
 
 put-record-requires : tie.Need-put-record-requires Inv-loop μ-loop
 put-record-requires c κs =
@@ -81,10 +81,10 @@ put-record-requires c κs =
     let records = ceilDiv (ceilDiv (a .size) 8) 32 in
     let more : l .n < records = rw (← c .before .before .before .before .before .before .parts .ensures, ← c .before .before .before .before .before .parts2 .ensures) (c .before .before .before .loop-test .taken) in
     let chunk = planned (c .before) in
-    let count : c .before .least .result ≤ 32 = omega (arith, c .before .least .ensures) in
+    let count : c .before .smaller .result ≤ 32 = omega (arith, c .before .smaller .ensures) in
     let low : c .before .before .address .result .0 ≤ 65535 =
     rw (ap (λ (k : Chunk). k .address) chunk) (block-each (λ k. k .address ≤ 65535) (a .unit) b (c .before .before .before .before .before .before .before .before .before .pre .1 .0) (l .n) more) in
-    let size : length (f (l .n)) ≡ 12 + 2 * c .before .least .result =
+    let size : length (f (l .n)) ≡ 12 + 2 * c .before .smaller .result =
     record-length (a .bytes .now) (a .len) (chunkAt (a .unit) b (l .n)) ∙ ap (λ (k : Chunk). 12 + 2 * k .count) (sym chunk) in
     let whole = ap length (block-pieces (a .bytes .now) (a .len) (a .unit) b) in (
       (omega (arith, count), low, omega (arith, count, inside (c .before .before .before), c .before .before .before .before .before .before .before .before .before .pre .0)),
@@ -129,9 +129,9 @@ put-records-spec =
     mul-from
     add-from
     address-requires
-    mul-least
-    sub-least
-    least-requires
+    mul-smaller
+    sub-smaller
+    smaller-requires
     put-record-requires
     add-n
     loop-less

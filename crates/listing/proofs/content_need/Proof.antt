@@ -6,7 +6,7 @@ use native.Mathlib.Nat.{div-le-self}
 use native.Mathlib.Omega.{arith}
 use Rattle.bitvec.specs.Size.{ceilDiv}
 use Rattle.bitvec.proofs.Size.{ceil-most}
-use Rattle.digits.proofs.Base.{base-small}
+use Rattle.bases.proofs.Base.{base-small}
 use Rattle.listing.specs.Listing.{contentDigits}
 use Rattle.listing.proofs.Columns.{good, need-few, need-many, need-own}
 use borrow.Author.Needs.{needs}

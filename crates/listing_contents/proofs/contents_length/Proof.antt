@@ -3,7 +3,7 @@
 use mathlib.Core.Path.{sym, ap, _∙_}
 use Prim.Native.Nat.{_+_, _-_, _/_}
 use native.Mathlib.Omega.{arith}
-use Rattle.digits.proofs.Base.{base-small}
+use Rattle.bases.proofs.Base.{base-small}
 use Rattle.listing.specs.Listing.{contentDigits}
 use Rattle.listing.proofs.Columns.{good}
 use Rattle.listing_contents.proofs.Contents.{contents-length}

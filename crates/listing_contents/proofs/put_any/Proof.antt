@@ -9,7 +9,7 @@ use lib.ListN.{length, length-append}
 use borrow.Author.Needs.{needs}
 use Rattle.output.proofs.Writes.{writes-then, room-then}
 use Rattle.bitvec.proofs.Size.{ceil-reach}
-use Rattle.digits.proofs.Base.{base-small}
+use Rattle.bases.proofs.Base.{base-small}
 use Rattle.listing.specs.Listing.{contentDigits, contents}
 use Rattle.listing.proofs.Columns.{good}
 use Rattle.listing_contents.specs.Groups.{spaced, groups}

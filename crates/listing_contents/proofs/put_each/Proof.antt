@@ -8,8 +8,8 @@ use lib.ListN.{length}
 use borrow.Author.Needs.{needs}
 use Rattle.output.specs.Pieces.{leading}
 use Rattle.output.specs.Writes.{Writes}
+use Rattle.output.proofs.Order.{stride}
 use Rattle.output.proofs.Writes.{writes-nothing, writes-then, writes-length}
-use Rattle.digits.proofs.Parts.{stride}
 use Rattle.listing_contents.specs.Groups.{spaced}
 use Rattle.listing_contents.proofs.Contents.{gap}
 use Rattle.listing_contents.proofs.Groups.{spaced-none, spaced-next, spaced-room}

@@ -7,9 +7,9 @@ use native.Mathlib.Omega.{arith}
 use lib.ListN.{length}
 use borrow.Author.Needs.{needs}
 use Rattle.output.specs.Writes.{Writes}
+use Rattle.output.proofs.Order.{stride}
 use Rattle.output.proofs.Writes.{writes-nothing, writes-then, writes-length}
 use Rattle.digits.proofs.Run.{run-length}
-use Rattle.digits.proofs.Parts.{stride}
 use Rattle.listing_contents.specs.Groups.{groups}
 use Rattle.listing_contents.proofs.Groups.{groups-none, groups-next, groups-length}
 use Rattle.listing_contents.proofs.put_runs.Statement.{statement}

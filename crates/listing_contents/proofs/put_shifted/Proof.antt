@@ -8,7 +8,8 @@ use borrow.Author.Needs.{needs}
 use Rattle.output.specs.Writes.{Writes}
 use Rattle.output.proofs.Writes.{writes-nothing, writes-then, writes-length}
 use Rattle.rows.specs.Rows.{perByte, digitBits}
-use Rattle.rows.proofs.Rows.{stride, byte-length}
+use Rattle.output.proofs.Order.{stride}
+use Rattle.rows.proofs.Rows.{byte-length}
 use Rattle.listing_contents.specs.Groups.{groups}
 use Rattle.listing_contents.proofs.Groups.{groups-none, groups-length, shifted-next}
 use Rattle.listing_contents.proofs.put_shifted.Statement.{statement}

@@ -10,7 +10,8 @@ use Rattle.bitvec.proofs.Words.{byte-whole}
 use Rattle.output.specs.Writes.{Writes}
 use Rattle.output.proofs.Writes.{writes-nothing, writes-then, writes-length}
 use Rattle.rows.specs.Rows.{perByte, bytesText}
-use Rattle.rows.proofs.Rows.{stride, bytes-none, bytes-next, bytes-length}
+use Rattle.output.proofs.Order.{stride}
+use Rattle.rows.proofs.Rows.{bytes-none, bytes-next, bytes-length}
 use Rattle.rows.proofs.put_bytes.Statement.{statement}
 use Rattle.rows.proofs.put_bytes.Tie as tie
 

@@ -11,7 +11,8 @@ use Rattle.bitvec.proofs.Words.{byte-whole}
 use Rattle.output.specs.Writes.{Writes}
 use Rattle.output.proofs.Writes.{writes-nothing, writes-then, writes-length}
 use Rattle.rows.specs.Rows.{perByte, rowsText}
-use Rattle.rows.proofs.Rows.{stride, byte-length, singles-next, rows-none, rows-length}
+use Rattle.output.proofs.Order.{stride}
+use Rattle.rows.proofs.Rows.{byte-length, singles-next, rows-none, rows-length}
 use Rattle.rows.proofs.put_ones.Statement.{statement}
 use Rattle.rows.proofs.put_ones.Tie as tie
 

@@ -10,7 +10,8 @@ use Rattle.output.specs.Writes.{Writes}
 use Rattle.output.proofs.Writes.{writes-nothing, writes-then, writes-length}
 use Rattle.rows.specs.declared.ByteDigits.the-variants.{Hex}
 use Rattle.rows.specs.Rows.{rowsText}
-use Rattle.rows.proofs.Rows.{stride, bytes-length, rows-none, rows-next, rows-length}
+use Rattle.output.proofs.Order.{stride}
+use Rattle.rows.proofs.Rows.{bytes-length, rows-none, rows-next, rows-length}
 use Rattle.rows.proofs.put_pairs.Statement.{statement}
 use Rattle.rows.proofs.put_pairs.Tie as tie
 

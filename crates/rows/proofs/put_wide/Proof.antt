@@ -9,7 +9,8 @@ use borrow.Author.Needs.{needs}
 use Rattle.output.specs.Writes.{Writes}
 use Rattle.output.proofs.Writes.{writes-nothing, writes-then, writes-length}
 use Rattle.rows.specs.Rows.{perByte, bytesText, rowsText}
-use Rattle.rows.proofs.Rows.{stride, bytes-length, rows-none, rows-next, rows-length}
+use Rattle.output.proofs.Order.{stride}
+use Rattle.rows.proofs.Rows.{bytes-length, rows-none, rows-next, rows-length}
 use Rattle.rows.proofs.put_wide.Statement.{statement}
 use Rattle.rows.proofs.put_wide.Tie as tie
 

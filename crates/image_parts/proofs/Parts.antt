@@ -5,19 +5,16 @@ use mathlib.Core.Bool.{Bool, true, false, cond}
 use mathlib.Core.List.{List}
 use Prim.Native.Nat.{ℕ, _+_, _*_, _/_, _%_, _≤_, _<_}
 use native.Mathlib.Omega.{arith}
-use native.Mathlib.Nat.{suc-mul, div-add-mod', mod-lt, mul-le-mul-right}
+use native.Mathlib.Nat.{div-add-mod', mod-lt}
 use lib.Dec.{eqb}
 use lib.ListN.{length, length-append}
 use borrow.Author.Tests.{eqb-true, eqb-false}
 use Rattle.bitvec.specs.Size.{ceilDiv}
 use Rattle.bitvec.proofs.Size.{ceil-whole, ceil-short}
 use Rattle.output.specs.Pieces.{pieces}
+use Rattle.output.proofs.Order.{stride}
 use Rattle.output.proofs.Pieces.{pieces-next, pieces-length}
-use Rattle.digits.specs.Parts.{partBits}
-
--- One part more is within a number of parts that is larger.
-pub stride : (k n w : ℕ) → k < n → k * w + w ≤ n * w
-stride k n w h = rw (← suc-mul k w) (mul-le-mul-right w h)
+use Rattle.image_parts.specs.Parts.{partBits}
 
 -- A part before the last whole one is whole.
 whole : (len width i : ℕ) → 0 < width → i < len / width → partBits len width i ≡ width

@@ -1,12 +1,12 @@
--- `digits::parts_length` meets its contract: the product does not wrap, and each return goes by its test.
+-- `image_parts::parts_length` meets its contract: the product does not wrap, and each return goes by its test.
 -- Assumes nothing.
 use Prim.Native.Nat.{_*_, _/_, _^_, _≤_}
 use native.Mathlib.Nat.{mul-le-mul, div-le-self}
 use native.Mathlib.Omega.{arith}
 use borrow.Author.Tests.{eq-eqb, ne-eqb}
 use borrow.Author.Needs.{needs}
-use Rattle.digits.proofs.parts_length.Statement.{statement}
-use Rattle.digits.proofs.parts_length.Tie as tie
+use Rattle.image_parts.proofs.parts_length.Statement.{statement}
+use Rattle.image_parts.proofs.parts_length.Tie as tie
 
 -- the whole parts' text is below 2 ^ 62
 product : (c : tie.Start) → c .args .len / c .args .width * c .args .full ≤ 2 ^ 31 * 2 ^ 31

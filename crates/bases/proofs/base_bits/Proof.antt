@@ -1,9 +1,9 @@
--- `digits::base_bits` meets its contract: each return goes by the tests that led to it.
+-- `bases::base_bits` meets its contract: each return goes by the tests that led to it.
 -- Assumes nothing.
 use borrow.Author.Tests.{eq-eqb, ne-eqb}
-use Rattle.digits.specs.Base.{baseBits}
-use Rattle.digits.proofs.base_bits.Statement.{statement}
-use Rattle.digits.proofs.base_bits.Tie as tie
+use Rattle.bases.specs.Base.{baseBits}
+use Rattle.bases.proofs.base_bits.Statement.{statement}
+use Rattle.bases.proofs.base_bits.Tie as tie
 
 returns : tie.Need-returns
 unfolding baseBits
