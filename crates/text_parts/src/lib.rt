@@ -1,0 +1,67 @@
+// A text cut into parts of one size, with a character behind each: digits that were made at once and
+// are written in lines, chunks or groups.
+ghost use mathlib.Core.Path.{_≡_};
+ghost use mathlib.Core.List.{[], _∷_, _++_};
+ghost use Prim.Native.Nat.{_+_, _*_, _≤_, _<_};
+ghost use lib.ListN.{length, take, drop};
+ghost use Rattle.output.specs.Writes.{Writes};
+ghost use Rattle.text_parts.specs.Parts.{partsText};
+
+// Stores the two characters of `s` from `from` on. They are copied into an array first, since a load
+// and a store of all at once can only be made where nothing else is stored between.
+fn put_two(out: &mut [u8], at: usize, s: &[u8], from: usize) -> usize
+    requires { ⌜ (from + 2 ≤ length (now s)) × (at + 2 ≤ length (now out)) ⌝ }
+    ensures { λ r. ⌜ Writes (take 2 (drop from (now (s .entry)))) (now (out .entry)) at (now (out .exit)) r ⌝ }
+{
+    let mut part = [0u8; 2];
+    output::put_all(&mut part, 0, &s[from..from + 2]);
+    output::put_all(out, at, &part)
+}
+
+// Stores the four characters of `s` from `from` on, by an array too.
+fn put_four(out: &mut [u8], at: usize, s: &[u8], from: usize) -> usize
+    requires { ⌜ (from + 4 ≤ length (now s)) × (at + 4 ≤ length (now out)) ⌝ }
+    ensures { λ r. ⌜ Writes (take 4 (drop from (now (s .entry)))) (now (out .entry)) at (now (out .exit)) r ⌝ }
+{
+    let mut part = [0u8; 4];
+    output::put_all(&mut part, 0, &s[from..from + 4]);
+    output::put_all(out, at, &part)
+}
+
+// Stores the eight characters of `s` from `from` on, by an array too.
+fn put_eight(out: &mut [u8], at: usize, s: &[u8], from: usize) -> usize
+    requires { ⌜ (from + 8 ≤ length (now s)) × (at + 8 ≤ length (now out)) ⌝ }
+    ensures { λ r. ⌜ Writes (take 8 (drop from (now (s .entry)))) (now (out .entry)) at (now (out .exit)) r ⌝ }
+{
+    let mut part = [0u8; 8];
+    output::put_all(&mut part, 0, &s[from..from + 8]);
+    output::put_all(out, at, &part)
+}
+
+// Stores the `size` characters of `s` from `from` on.
+fn put_part(out: &mut [u8], at: usize, s: &[u8], from: usize, size: usize) -> usize
+    requires { ⌜ (from + size ≤ length (now s)) × (at + size ≤ length (now out)) ⌝ }
+    ensures { λ r. ⌜ Writes (take size (drop from (now (s .entry)))) (now (out .entry)) at (now (out .exit)) r ⌝ }
+{
+    match size {
+        1 => output::put(out, at, s[from]),
+        2 => put_two(out, at, s, from),
+        4 => put_four(out, at, s, from),
+        8 => put_eight(out, at, s, from),
+        _ => output::put_all(out, at, &s[from..from + size]),
+    }
+}
+
+// Stores the first `count` parts of `s`, of `size` characters each, and a character behind each. The
+// sizes that digits of whole bytes have are numbers of the code, so that a part is one store.
+pub fn put_parts(out: &mut [u8], at: usize, s: &[u8], size: usize, tail: u8, count: usize) -> usize
+    requires { ⌜ (count * size ≤ length (now s)) × (at + count * (size + 1) ≤ length (now out)) ⌝ }
+    ensures { λ r. ⌜ Writes (partsText (now (s .entry)) size (tail ∷ []) count) (now (out .entry)) at (now (out .exit)) r ⌝ }
+{
+    let mut next = at;
+    for k in 0..count {
+        next = put_part(out, next, s, k * size, size);
+        next = output::put(out, next, tail);
+    }
+    next
+}
