@@ -1,2 +1,3 @@
 mod Lengths
+mod Narrow
 pub mod Whole

@@ -10,7 +10,7 @@ use Rattle.bitvec.specs.Size.{ceilDiv}
 use Rattle.bitvec.proofs.Size.{ceil-covers}
 use Rattle.output.specs.Ascii.{ascii}
 use Rattle.output.specs.Pieces.{pieces}
-use Rattle.output.proofs.Pieces.{pieces-append, pieces-equal}
+use Rattle.output.proofs.Pieces.{pieces-none, pieces-append, pieces-equal}
 use Rattle.rows.specs.Rows.{bytesText, rowsText}
 use Rattle.output.proofs.Order.{stride}
 use Rattle.digits.specs.Run.{run, shortDigit, hexLine}
@@ -41,12 +41,12 @@ whole-line kind bytes len width k e h =
     let line = bytes-line kind bytes len (0 + k * (width / 8)) (width / 8) in
     rw all (ap (λ (t : List ℕ). t ++ ascii "\n") (rw (place, bits) at line))
 
--- Lines of whole bytes, if there are any.
-pub whole-rows : (kind : Readmem) (bytes : List ℕ) (len width n : ℕ) → (0 < n → width % 8 ≡ 0) → n * width ≤ len
+-- Lines of whole bytes that the image fills.
+pub whole-rows : (kind : Readmem) (bytes : List ℕ) (len width n : ℕ) → width % 8 ≡ 0 → n * width ≤ len
     → rowsText (byteDigitsOf kind) bytes len 0 (width / 8) (ascii "\n") n ≡ pieces (lineAt kind bytes len width) n
 unfolding rowsText
 whole-rows kind bytes len width n e h =
-    pieces-equal _ _ n (λ k l. sym (whole-line kind bytes len width k (e (omega arith)) (omega (arith, stride k n width l))))
+    pieces-equal _ _ n (λ k l. sym (whole-line kind bytes len width k e (omega (arith, stride k n width l))))
 
 -- The file: the first n lines and the others.
 pub lines-parts : (kind : Readmem) (bytes : List ℕ) (len width n : ℕ) → n ≤ ceilDiv len width
@@ -55,6 +55,12 @@ unfolding readmemText
 lines-parts kind bytes len width n h =
     let all : n + (ceilDiv len width - n) ≡ ceilDiv len width = omega arith in
     ap (pieces (lineAt kind bytes len width)) (sym all) ∙ pieces-append (lineAt kind bytes len width) n (ceilDiv len width - n)
+
+-- All lines, counted from the first.
+pub lines-all : (kind : Readmem) (bytes : List ℕ) (len width : ℕ)
+    → readmemText kind bytes len width ≡ pieces (λ k. lineAt kind bytes len width (0 + k)) (ceilDiv len width - 0)
+lines-all kind bytes len width =
+    rw (pieces-none (lineAt kind bytes len width)) at (lines-parts kind bytes len width 0 (omega arith))
 
 -- Lines that are within the image are not more than all.
 pub lines-most : (len width n : ℕ) → 0 < width → n * width ≤ len → n ≤ ceilDiv len width

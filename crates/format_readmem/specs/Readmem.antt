@@ -1,7 +1,8 @@
 -- The files of Verilog's `$readmemb` and `$readmemh` (document 01, module 3; the Rust's `format_readmemb` and `format_readmemh`).
+use mathlib.Core.Path.{_≡_}
 use mathlib.Core.Bool.{cond}
 use mathlib.Core.List.{List, _++_}
-use Prim.Native.Nat.{ℕ, _*_}
+use Prim.Native.Nat.{ℕ, _*_, _/_, _≤_, _<_}
 use Rattle.bitvec.specs.Size.{badSize, ceilDiv}
 use Rattle.output.specs.Ascii.{ascii}
 use Rattle.output.specs.Pieces.{pieces}
@@ -42,3 +43,11 @@ readmemhOutcome = readmemOutcome Hex
 abbrev pub byteDigitsOf : Readmem → ByteDigits
 byteDigitsOf Binary = Bytes.Binary
 byteDigitsOf Hex = Bytes.Hex
+
+-- A line of `width` bits is a run of at most 64 digits, of w bits each.
+abbrev pub Runs : Readmem → ℕ → ℕ → Type 0
+Runs kind width w =
+    (0 < width / w)
+    × (width / w ≤ 64)
+    × (width / w * w ≡ width)
+    × ((bytes : List ℕ) (len i : ℕ) → lineText kind bytes len i width ≡ run bytes len w i (width / w))

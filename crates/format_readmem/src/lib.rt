@@ -8,7 +8,8 @@ ghost use Rattle.bitvec.specs.Size.{ceilDiv};
 ghost use Rattle.output.specs.Pieces.{pieces};
 ghost use Rattle.output.specs.Writes.{Writes};
 ghost use Rattle.outcome.specs.Outcome.{Exports};
-ghost use Rattle.format_readmem.specs.Readmem.{lineText, lineAt, byteDigitsOf, readmemText, readmemOutcome, readmembOutcome, readmemhOutcome};
+ghost use Rattle.format_readmem.specs.declared.Readmem.the-variants.{Hex};
+ghost use Rattle.format_readmem.specs.Readmem.{lineText, lineAt, byteDigitsOf, Runs, readmemText, readmemOutcome, readmembOutcome, readmemhOutcome};
 use bitvec::BitOffset;
 use outcome::Export;
 use rows::ByteDigits;
@@ -97,18 +98,81 @@ fn byte_digits(kind: Readmem) -> ByteDigits
     }
 }
 
-// How many lines are made of whole bytes of the image alone, where lines are.
-fn whole_lines(bits: usize, width: usize) -> usize
-    requires { ⌜ 0 < width ⌝ }
-    ensures { λ r. ⌜ (r * width ≤ bits) × (0 < r → width % 8 ≡ 0) ⌝ }
+// Stores the file, of `lines` lines, where these are of whole bytes: those that the image fills, and then
+// the last one.
+fn write_rows(
+    kind: Readmem,
+    image: &[u8],
+    bits: usize,
+    width: usize,
+    lines: usize,
+    out: &mut [u8],
+) -> usize
+    requires size { ⌜ (0 < width) × (width ≤ 4096) × (bits ≤ 16777216) × (bits ≤ 8 * length (now image)) × (lines ≡ ceilDiv bits width) ⌝ }
+    requires bytes { ⌜ width % 8 ≡ 0 ⌝ }
+    requires room { ⌜ length (readmemText kind (now image) bits width) ≤ length (now out) ⌝ }
+    ensures { λ r. ⌜ Writes (readmemText kind (now (image .entry)) bits width) (now (out .entry)) 0 (now (out .exit)) r ⌝ }
 {
-    if width % 8 != 0 {
-        return 0;
-    }
-    bits / width
+    let whole = bits / width;
+    let digits = byte_digits(kind);
+    let next = rows::put_rows(out, 0, digits, image, bits, 0, width / 8, b"\n", whole);
+    put_lines(out, next, kind, image, bits, width, whole, lines)
 }
 
-// Stores the file, of `lines` lines: those of whole bytes, and then the others.
+// How many bits a digit of a hexadecimal line has, if all have as many, and 0 if not.
+fn hex_bits(width: usize) -> usize
+    requires { ⌜ (0 < width) × (width ≤ 64) ⌝ }
+    ensures { λ r. ⌜ (r ≤ 4) × (0 < r → Runs Hex width r) ⌝ }
+{
+    if width % 4 == 0 {
+        return 4;
+    }
+    if width < 4 {
+        return width;
+    }
+    0
+}
+
+// How many bits a digit of a short line has, if all have as many, and 0 if not. A long line is better
+// written in its place at once.
+fn digit_bits(kind: Readmem, width: usize) -> usize
+    requires { ⌜ 0 < width ⌝ }
+    ensures { λ r. ⌜ (r ≤ 4) × (0 < r → Runs kind width r) ⌝ }
+{
+    if 64 < width {
+        return 0;
+    }
+    match kind {
+        Readmem::Binary => 1,
+        Readmem::Hex => hex_bits(width),
+    }
+}
+
+// Stores the file, of `lines` lines: where all digits have as many bits, those of many lines are made at
+// once.
+fn write_narrow(
+    kind: Readmem,
+    image: &[u8],
+    bits: usize,
+    width: usize,
+    lines: usize,
+    out: &mut [u8],
+) -> usize
+    requires size { ⌜ (0 < width) × (width ≤ 4096) × (bits ≤ 16777216) × (lines ≡ ceilDiv bits width) ⌝ }
+    requires room { ⌜ length (readmemText kind (now image) bits width) ≤ length (now out) ⌝ }
+    ensures { λ r. ⌜ Writes (readmemText kind (now (image .entry)) bits width) (now (out .entry)) 0 (now (out .exit)) r ⌝ }
+{
+    let digit = digit_bits(kind, width);
+    if digit == 0 {
+        return put_lines(out, 0, kind, image, bits, width, 0, lines);
+    }
+    let whole = bits / width;
+    let size = width / digit;
+    let next = digit_lines::put_lines(out, 0, image, bits, digit, BitOffset(0), size, b'\n', whole);
+    put_lines(out, next, kind, image, bits, width, whole, lines)
+}
+
+// Stores the file, of `lines` lines.
 fn write_readmem(
     kind: Readmem,
     image: &[u8],
@@ -121,10 +185,10 @@ fn write_readmem(
     requires room { ⌜ length (readmemText kind (now image) bits width) ≤ length (now out) ⌝ }
     ensures { λ r. ⌜ Writes (readmemText kind (now (image .entry)) bits width) (now (out .entry)) 0 (now (out .exit)) r ⌝ }
 {
-    let whole = whole_lines(bits, width);
-    let digits = byte_digits(kind);
-    let next = rows::put_rows(out, 0, digits, image, bits, 0, width / 8, b"\n", whole);
-    put_lines(out, next, kind, image, bits, width, whole, lines)
+    if width % 8 == 0 {
+        return write_rows(kind, image, bits, width, lines, out);
+    }
+    write_narrow(kind, image, bits, width, lines, out)
 }
 
 fn format_readmem(kind: Readmem, image: &[u8], bits: usize, width: usize, out: &mut [u8]) -> Export

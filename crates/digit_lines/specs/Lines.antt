@@ -1,0 +1,9 @@
+-- Lines of digits. No format is defined by it.
+use mathlib.Core.List.{List, [], _∷_, _++_}
+use Prim.Native.Nat.{ℕ, _+_, _*_}
+use Rattle.output.specs.Pieces.{pieces}
+use Rattle.digits.specs.Run.{run}
+
+-- n lines of `size` digits of w bits each, from bit i on, with a character behind each.
+unfoldable pub linesText : List ℕ → ℕ → ℕ → ℕ → ℕ → ℕ → ℕ → List ℕ
+linesText bytes len w i size tail n = pieces (λ k. run bytes len w (i + k * (size * w)) size ++ (tail ∷ [])) n
