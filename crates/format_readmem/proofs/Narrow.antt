@@ -18,7 +18,8 @@ use Rattle.digit_lines.specs.Lines.{linesText}
 use Rattle.image_parts.specs.Parts.{partBits}
 use Rattle.format_readmem.specs.declared.Readmem.{Readmem}
 use Rattle.format_readmem.specs.declared.Readmem.the-variants.{Binary, Hex}
-use Rattle.format_readmem.specs.Readmem.{lineText, lineAt, Runs}
+use Rattle.format_readmem.specs.Readmem.{lineText, lineAt}
+use Rattle.format_readmem.specs.Runs.{Runs}
 
 -- Each bit is a digit.
 pub runs-binary : (width : ℕ) → 0 < width → width ≤ 64 → Runs Binary width 1

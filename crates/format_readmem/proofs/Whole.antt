@@ -18,7 +18,8 @@ use Rattle.image_parts.specs.Parts.{partBits}
 use Rattle.digits.proofs.Run.{bytes-run}
 use Rattle.format_readmem.specs.declared.Readmem.{Readmem}
 use Rattle.format_readmem.specs.declared.Readmem.the-variants.{Binary, Hex}
-use Rattle.format_readmem.specs.Readmem.{lineText, lineAt, byteDigitsOf, readmemText}
+use Rattle.format_readmem.specs.Readmem.{lineText, lineAt, readmemText}
+use Rattle.format_readmem.specs.Runs.{byteDigitsOf}
 
 -- The digits of a line of m bytes.
 bytes-line : (kind : Readmem) (bytes : List ℕ) (len i m : ℕ) → lineText kind bytes len (i * 8) (m * 8) ≡ bytesText (byteDigitsOf kind) bytes len i m

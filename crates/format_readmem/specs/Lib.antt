@@ -1,1 +1,2 @@
 pub mod Readmem
+pub mod Runs

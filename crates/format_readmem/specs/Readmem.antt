@@ -1,14 +1,11 @@
 -- The files of Verilog's `$readmemb` and `$readmemh` (document 01, module 3; the Rust's `format_readmemb` and `format_readmemh`).
-use mathlib.Core.Path.{_≡_}
 use mathlib.Core.Bool.{cond}
 use mathlib.Core.List.{List, _++_}
-use Prim.Native.Nat.{ℕ, _*_, _/_, _≤_, _<_}
+use Prim.Native.Nat.{ℕ, _*_}
 use Rattle.bitvec.specs.Size.{badSize, ceilDiv}
 use Rattle.output.specs.Ascii.{ascii}
 use Rattle.output.specs.Pieces.{pieces}
 use Rattle.outcome.specs.Outcome.{Outcome, refused, outside, inRoom}
-use Rattle.rows.specs.declared.ByteDigits.{ByteDigits}
-use Rattle.rows.specs.declared.ByteDigits.the-variants as Bytes
 use Rattle.digits.specs.Run.{run, hexLine}
 use Rattle.image_parts.specs.Parts.{partBits}
 use Rattle.format_readmem.specs.declared.Readmem.{Readmem}
@@ -38,16 +35,3 @@ readmembOutcome = readmemOutcome Binary
 
 abbrev pub readmemhOutcome : List ℕ → ℕ → ℕ → ℕ → Outcome
 readmemhOutcome = readmemOutcome Hex
-
--- A line of whole bytes has the digits of bytes.
-abbrev pub byteDigitsOf : Readmem → ByteDigits
-byteDigitsOf Binary = Bytes.Binary
-byteDigitsOf Hex = Bytes.Hex
-
--- A line of `width` bits is a run of at most 64 digits, of w bits each.
-abbrev pub Runs : Readmem → ℕ → ℕ → Type 0
-Runs kind width w =
-    (0 < width / w)
-    × (width / w ≤ 64)
-    × (width / w * w ≡ width)
-    × ((bytes : List ℕ) (len i : ℕ) → lineText kind bytes len i width ≡ run bytes len w i (width / w))

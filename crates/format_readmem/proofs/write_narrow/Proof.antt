@@ -11,7 +11,8 @@ use Rattle.output.specs.Pieces.{pieces}
 use Rattle.output.proofs.Writes.{writes-then, writes-length}
 use Rattle.digit_lines.specs.Lines.{linesText}
 use Rattle.digit_lines.proofs.Lines.{lines-length}
-use Rattle.format_readmem.specs.Readmem.{lineAt, Runs, readmemText}
+use Rattle.format_readmem.specs.Readmem.{lineAt, readmemText}
+use Rattle.format_readmem.specs.Runs.{Runs}
 use Rattle.format_readmem.proofs.Narrow.{narrow-lines}
 use Rattle.format_readmem.proofs.Whole.{lines-all, lines-parts, lines-most}
 use Rattle.format_readmem.proofs.write_narrow.Statement.{statement}
