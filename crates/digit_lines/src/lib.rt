@@ -7,10 +7,10 @@ ghost use Rattle.digit_lines.specs.Lines.{linesText};
 use bitvec::BitOffset;
 
 // Places for the digits of a block of lines.
-fn no_digits() -> [u8; 512]
-    ensures { λ r. ⌜ length r ≡ 512 ⌝ }
+fn no_digits() -> [u8; 1024]
+    ensures { λ r. ⌜ length r ≡ 1024 ⌝ }
 {
-    [0; 512]
+    [0; 1024]
 }
 
 // Stores `lines` lines of `size` digits each, whose digits have places in one array.
@@ -25,7 +25,7 @@ fn put_block(
     tail: u8,
     lines: usize,
 ) -> usize
-    requires small { ⌜ (width ≤ 5) × (lines * size ≤ 512) × (from .0 + lines * size * width < 2 ^ 64) ⌝ }
+    requires small { ⌜ (width ≤ 5) × (lines * size ≤ 1024) × (from .0 + lines * size * width < 2 ^ 64) ⌝ }
     requires room { ⌜ at + lines * (size + 1) ≤ length (now out) ⌝ }
     ensures { λ r. ⌜ Writes (linesText (now (bytes .entry)) len width (from .0) size tail lines) (now (out .entry)) at (now (out .exit)) r ⌝ }
 {
@@ -37,10 +37,10 @@ fn put_block(
 // How many lines of `size` digits a block has: eight or a multiple where they have places, so that the
 // next block starts with a byte if this one does.
 fn block_lines(size: usize) -> usize
-    requires { ⌜ (0 < size) × (size ≤ 512) ⌝ }
-    ensures { λ r. ⌜ (0 < r) × (r * size ≤ 512) ⌝ }
+    requires { ⌜ (0 < size) × (size ≤ 1024) ⌝ }
+    ensures { λ r. ⌜ (0 < r) × (r * size ≤ 1024) ⌝ }
 {
-    let most = 512 / size;
+    let most = 1024 / size;
     if most < 8 {
         return most;
     }
@@ -59,7 +59,7 @@ pub fn put_lines(
     tail: u8,
     count: usize,
 ) -> usize
-    requires small { ⌜ (width ≤ 5) × (0 < size) × (size ≤ 512) × (from .0 + count * (size * width) < 2 ^ 64) ⌝ }
+    requires small { ⌜ (width ≤ 5) × (0 < size) × (size ≤ 1024) × (from .0 + count * (size * width) < 2 ^ 64) ⌝ }
     requires room { ⌜ at + count * (size + 1) ≤ length (now out) ⌝ }
     ensures { λ r. ⌜ Writes (linesText (now (bytes .entry)) len width (from .0) size tail count) (now (out .entry)) at (now (out .exit)) r ⌝ }
 {

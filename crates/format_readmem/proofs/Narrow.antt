@@ -22,14 +22,14 @@ use Rattle.format_readmem.specs.Readmem.{lineText, lineAt}
 use Rattle.format_readmem.specs.Runs.{Runs}
 
 -- Each bit is a digit.
-pub runs-binary : (width : ℕ) → 0 < width → width ≤ 64 → Runs Binary width 1
+pub runs-binary : (width : ℕ) → 0 < width → width ≤ 128 → Runs Binary width 1
 unfolding lineText
 runs-binary width h l =
     let all : width / 1 ≡ width = omega arith in
     (omega arith, omega arith, omega arith, λ bytes len i. rw all)
 
 -- Each four bits are one.
-pub runs-whole : (width : ℕ) → 0 < width → width ≤ 64 → width % 4 ≡ 0 → Runs Hex width 4
+pub runs-whole : (width : ℕ) → 0 < width → width ≤ 128 → width % 4 ≡ 0 → Runs Hex width 4
 unfolding lineText hexLine shortDigit
 runs-whole width h l e = (omega arith, omega arith, omega arith, λ bytes len i. let start : i + 0 ≡ i = omega arith in rw (e, start))
 

@@ -14,10 +14,10 @@ abbrev pub byteDigitsOf : Readmem → ByteDigits
 byteDigitsOf Binary = Bytes.Binary
 byteDigitsOf Hex = Bytes.Hex
 
--- A line of `width` bits is a run of at most 64 digits, of w bits each.
+-- A line of `width` bits is a run of at most 128 digits, of w bits each.
 abbrev pub Runs : Readmem → ℕ → ℕ → Type 0
 Runs kind width w =
     (0 < width / w)
-    × (width / w ≤ 64)
+    × (width / w ≤ 128)
     × (width / w * w ≡ width)
     × ((bytes : List ℕ) (len i : ℕ) → lineText kind bytes len i width ≡ run bytes len w i (width / w))

@@ -122,7 +122,7 @@ fn write_rows(
 
 // How many bits a digit of a hexadecimal line has, if all have as many, and 0 if not.
 fn hex_bits(width: usize) -> usize
-    requires { ⌜ (0 < width) × (width ≤ 64) ⌝ }
+    requires { ⌜ (0 < width) × (width ≤ 128) ⌝ }
     ensures { λ r. ⌜ (r ≤ 4) × (0 < r → Runs Hex width r) ⌝ }
 {
     if width % 4 == 0 {
@@ -140,7 +140,7 @@ fn digit_bits(kind: Readmem, width: usize) -> usize
     requires { ⌜ 0 < width ⌝ }
     ensures { λ r. ⌜ (r ≤ 4) × (0 < r → Runs kind width r) ⌝ }
 {
-    if 64 < width {
+    if 128 < width {
         return 0;
     }
     match kind {

@@ -5,11 +5,12 @@ use mathlib.Core.List.{List, [], _∷_, _++_, append-nil, append-assoc}
 use Prim.Native.Nat.{ℕ, zero, suc, _+_, _-_, _*_, _≤_, _<_}
 use native.Mathlib.Omega.{arith}
 use native.Mathlib.Nat.{zero-add, suc-mul, zero-mul}
-use lib.ListN.{length, getD, take, drop, length-append, length-drop, drop-of-length-le}
-use lib.Seq.{sets, sets-eq, length-take-le, take-at, drop-at, drop-cons}
+use lib.ListN.{length, getD, take, drop, length-append, length-drop, drop-of-length-le, take-append-drop}
+use lib.Seq.{sets, sets-eq, length-take-le, take-at, drop-at, drop-cons, take-append-add, drop-drop}
 use Rattle.output.proofs.Order.{stride}
 use Rattle.output.specs.Pieces.{pieces}
 use Rattle.output.specs.Writes.{Writes}
+use Rattle.output.proofs.Writes.{writes-over}
 use Rattle.output.proofs.Pieces.{pieces-none, pieces-next, pieces-length, pieces-equal, pieces-append}
 use Rattle.text_parts.specs.Parts.{partsText}
 
@@ -20,6 +21,33 @@ part-length s from size h = length-take-le size (drop from s) (rw (length-drop f
 -- A part of one character.
 pub part-of-one : (s : List ℕ) (from : ℕ) → from < length s → take 1 (drop from s) ≡ getD s from 0 ∷ []
 part-of-one s from h = ap (take 1) (drop-cons s from 0 h)
+
+-- The front of a text in two.
+take-split : (s : List ℕ) (a b : ℕ) → a ≤ length s → take (a + b) s ≡ take a s ++ take b (drop a s)
+take-split s a b h =
+    rw (length-take-le a s h, take-append-drop a s) at (take-append-add (take a s) (drop a s) b)
+
+-- A part that is written as its first and its last m characters, which may overlap.
+pub writes-twice : {l₀ l₁ l₂ : List ℕ} {at r₁ r₂ : ℕ} (s : List ℕ) (from m n : ℕ) → m ≤ n → n ≤ m + m → from + n ≤ length s
+    → Writes (take m (drop from s)) l₀ at l₁ r₁ → Writes (take m (drop (from + (n - m)) s)) l₁ (at + (n - m)) l₂ r₂
+    → Writes (take n (drop from s)) l₀ at l₂ r₂
+writes-twice {at = at} {r₁ = r₁} s from m n h l b p q =
+    let d = drop from s in
+    let long = length-drop from s in
+    let again = take (m + m - n) (drop (n - m) d) in
+    let last = take m (drop (n - m) d) in
+    let first : take m d ≡ take (n - m) d ++ again = rw (front-again h l) at (take-split d (n - m) (m + m - n) (omega arith)) in
+    let all : take n d ≡ take (n - m) d ++ last = rw (front-last h) at (take-split d (n - m) m (omega arith)) in
+    let again-length : length again ≡ m + m - n = length-take-le (m + m - n) (drop (n - m) d) (omega (arith, length-drop (n - m) d)) in
+    let last-length : length last ≡ m = length-take-le m (drop (n - m) d) (omega (arith, length-drop (n - m) d)) in
+    let place : at + (n - m) ≡ r₁ - length again = omega (arith, p .next, part-length s from m (omega arith), again-length) in
+    rw all (writes-over (take (n - m) d) again last (omega (arith, again-length, last-length)) (rw first at p) (rw (place, ← drop-drop (n - m) from s) at q))
+  where
+    front-again : m ≤ n → n ≤ m + m → n - m + (m + m - n) ≡ m
+    front-again h l = omega arith
+
+    front-last : m ≤ n → n - m + m ≡ n
+    front-last h = omega arith
 
 -- A text that is written at the start of another.
 pub front : (l t : List ℕ) → length t ≤ length l → sets l 0 t ≡ t ++ drop (length t) l

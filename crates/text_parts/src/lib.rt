@@ -38,6 +38,56 @@ fn put_eight(out: &mut [u8], at: usize, s: &[u8], from: usize) -> usize
     output::put_all(out, at, &part)
 }
 
+// Stores two to four characters, as two stores of two that may overlap: a copy of another length is a
+// call.
+fn put_by_twos(out: &mut [u8], at: usize, s: &[u8], from: usize, size: usize) -> usize
+    requires size { ⌜ (2 ≤ size) × (size ≤ 4) ⌝ }
+    requires room { ⌜ (from + size ≤ length (now s)) × (at + size ≤ length (now out)) ⌝ }
+    ensures { λ r. ⌜ Writes (take size (drop from (now (s .entry)))) (now (out .entry)) at (now (out .exit)) r ⌝ }
+{
+    put_two(out, at, s, from);
+    put_two(out, at + (size - 2), s, from + (size - 2))
+}
+
+// Stores four to eight characters, as two stores of four.
+fn put_by_fours(out: &mut [u8], at: usize, s: &[u8], from: usize, size: usize) -> usize
+    requires size { ⌜ (4 ≤ size) × (size ≤ 8) ⌝ }
+    requires room { ⌜ (from + size ≤ length (now s)) × (at + size ≤ length (now out)) ⌝ }
+    ensures { λ r. ⌜ Writes (take size (drop from (now (s .entry)))) (now (out .entry)) at (now (out .exit)) r ⌝ }
+{
+    put_four(out, at, s, from);
+    put_four(out, at + (size - 4), s, from + (size - 4))
+}
+
+// Stores eight to 16 characters, as two stores of eight.
+fn put_by_eights(out: &mut [u8], at: usize, s: &[u8], from: usize, size: usize) -> usize
+    requires size { ⌜ (8 ≤ size) × (size ≤ 16) ⌝ }
+    requires room { ⌜ (from + size ≤ length (now s)) × (at + size ≤ length (now out)) ⌝ }
+    ensures { λ r. ⌜ Writes (take size (drop from (now (s .entry)))) (now (out .entry)) at (now (out .exit)) r ⌝ }
+{
+    put_eight(out, at, s, from);
+    put_eight(out, at + (size - 8), s, from + (size - 8))
+}
+
+// Stores the `size` characters of `s` from `from` on, where these are not a power of two.
+fn put_odd(out: &mut [u8], at: usize, s: &[u8], from: usize, size: usize) -> usize
+    requires { ⌜ (from + size ≤ length (now s)) × (at + size ≤ length (now out)) ⌝ }
+    ensures { λ r. ⌜ Writes (take size (drop from (now (s .entry)))) (now (out .entry)) at (now (out .exit)) r ⌝ }
+{
+    if size == 3 {
+        return put_by_twos(out, at, s, from, size);
+    }
+    if 4 < size {
+        if size < 8 {
+            return put_by_fours(out, at, s, from, size);
+        }
+        if size < 17 {
+            return put_by_eights(out, at, s, from, size);
+        }
+    }
+    output::put_all(out, at, &s[from..from + size])
+}
+
 // Stores the `size` characters of `s` from `from` on.
 fn put_part(out: &mut [u8], at: usize, s: &[u8], from: usize, size: usize) -> usize
     requires { ⌜ (from + size ≤ length (now s)) × (at + size ≤ length (now out)) ⌝ }
@@ -48,7 +98,7 @@ fn put_part(out: &mut [u8], at: usize, s: &[u8], from: usize, size: usize) -> us
         2 => put_two(out, at, s, from),
         4 => put_four(out, at, s, from),
         8 => put_eight(out, at, s, from),
-        _ => output::put_all(out, at, &s[from..from + size]),
+        _ => put_odd(out, at, s, from, size),
     }
 }
 

@@ -13,7 +13,7 @@ div-most c = search needs
 returns : tie.Need-returns
 returns c =
     let a = c .before in
-    (le-div-iff-mul-le {x = 1} {y = 512} (a .pre .0) .1 (omega (arith, a .pre .1)), div-mul-le-self 512 (a .args .size))
+    (le-div-iff-mul-le {x = 1} {y = 1024} (a .pre .0) .1 (omega (arith, a .pre .1)), div-mul-le-self 1024 (a .args .size))
 
 sub-result : tie.Need-sub-result
 sub-result c = search needs
@@ -21,8 +21,8 @@ sub-result c = search needs
 returns-2 : tie.Need-returns-2
 returns-2 c =
     let size = c .before .args .size in
-    let fewer : (512 / size - 512 / size % 8) * size ≤ 512 / size * size = mul-le-mul-right size (omega arith) in
-    (omega (arith, c .if1 .left), omega (arith, fewer, div-mul-le-self 512 size))
+    let fewer : (1024 / size - 1024 / size % 8) * size ≤ 1024 / size * size = mul-le-mul-right size (omega arith) in
+    (omega (arith, c .if1 .left), omega (arith, fewer, div-mul-le-self 1024 size))
 
 pub block-lines-spec : {M : Type 1} → statement M
 block-lines-spec = tie.close (tie.spec div-most returns sub-result returns-2)

@@ -24,7 +24,7 @@ abbrev μ-loop : tie.MeasureT-loop
 μ-loop out₀ at bytes len width size tail count most offset₀ next₀ k₀ out offset next k = count - k
 
 -- the digits of a block have places
-few : (c : tie.After-smaller Inv-loop μ-loop) → c .smaller .result * c .before .before .before .before .before .before .args .size ≤ 512
+few : (c : tie.After-smaller Inv-loop μ-loop) → c .smaller .result * c .before .before .before .before .before .before .args .size ≤ 1024
 few c =
     let told = c .before .before .before in
     let fewer = mul-le-mul-right {m = c .smaller .result} {n = told .block-lines .result} (told .before .before .before .args .size) (omega (arith, c .smaller .ensures)) in

@@ -1,7 +1,6 @@
 -- `text_parts::put_part` meets its contract: one case for each size.
 -- Assumes nothing.
 use mathlib.Core.Path.{_≡_}
-use Prim.Native.Nat.{_+_, _-_}
 use native.Mathlib.Omega.{arith}
 use borrow.Author.Needs.{needs}
 use Rattle.text_parts.proofs.Parts.{part-of-one}
@@ -23,20 +22,8 @@ put-four-requires c κs = search needs
 put-eight-requires : tie.Need-put-eight-requires
 put-eight-requires c κs = search needs
 
-add-put-all : tie.Need-add-put-all
-add-put-all c = search needs
-
-sub-put-all : tie.Need-sub-put-all
-sub-put-all c = search needs
-
-part-put-all-start : tie.Need-part-put-all-start
-part-put-all-start c = search needs
-
-part-put-all-end : tie.Need-part-put-all-end
-part-put-all-end c = search needs
-
-put-all-requires : tie.Need-put-all-requires
-put-all-requires c κs = search needs
+put-odd-requires : tie.Need-put-odd-requires
+put-odd-requires c κs = search needs
 
 same-length : tie.Need-same-length
 same-length c = search needs
@@ -79,10 +66,7 @@ same-length-5 : tie.Need-same-length-5
 same-length-5 c = search needs
 
 returns-5 : tie.Need-returns-5
-returns-5 c =
-    let a = c .before .before .before .before .before .before .before .before .args in
-    let size : a .from + a .size - a .from ≡ a .size = omega arith in
-    rw size at (c .before .before .put-all .ensures)
+returns-5 c = search needs
 
 pub put-part-spec : {M : Type 1} → statement M
 put-part-spec =
@@ -93,11 +77,7 @@ put-part-spec =
     put-two-requires
     put-four-requires
     put-eight-requires
-    add-put-all
-    sub-put-all
-    part-put-all-start
-    part-put-all-end
-    put-all-requires
+    put-odd-requires
     same-length
     returns
     same-length-2
