@@ -79,9 +79,11 @@ pub type Group = Vec<Case>;
 /// All cases.
 pub fn all() -> impl Iterator<Item = Group> {
     let plain = exporters::without_spans().into_iter().flat_map(without_spans);
+    let short = exporters::with_short_parts().into_iter().map(one_size);
     let hex = [lists::ONE].into_iter().chain(lists::several()).flat_map(intelhex);
     let listings = lists::several().flat_map(annotated);
-    plain.chain(hex).chain(listings).chain(lists::several().flat_map(get_blocks))
+    let blocks = lists::several().flat_map(get_blocks);
+    plain.chain(hex).chain(listings).chain(blocks).chain(short)
 }
 
 /// The exporter of a case, the image's bits, and the spans that the Rust's image has.
@@ -97,6 +99,13 @@ fn groups<T: Copy>(sizes: [T; 3], parts: impl Fn(T, usize) -> Parts) -> [Group; 
 fn without_spans(exporter: Exporter) -> [Group; 2] {
     let (exporter, columns) = (Rc::new(exporter), Rc::new(Columns::default()));
     groups(SIZES, |size, off| (exporter.clone(), 8 * size - off, columns.clone()))
+}
+
+/// An exporter on one image of whole bytes.
+fn one_size(exporter: Exporter) -> Group {
+    let (exporter, columns) = (Rc::new(exporter), Rc::new(Columns::default()));
+    let (alignment, _) = ALIGNMENTS[0];
+    vec![Case { exporter, alignment, bits: 8 * SIZES[1], columns }]
 }
 
 /// Intel HEX with spans from bit 0 or 3 on.

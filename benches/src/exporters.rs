@@ -58,6 +58,18 @@ pub fn without_spans() -> Vec<Exporter> {
     all
 }
 
+/// Exporters with options that make short lines, chunks or groups, or of no whole bytes. No target is
+/// set for them.
+pub fn with_short_parts() -> Vec<Exporter> {
+    let mut all = vec![str(2)];
+    all.extend([1, 3, 12].map(readmemb));
+    all.extend([1, 4, 5, 12].map(readmemh));
+    all.extend([[16, 1, 16], [2, 1, 16], [8, 3, 8], [32, 2, 8]].map(list));
+    all.extend([2, 4, 12].map(logisim));
+    all.push(dump("dump, 4 bits a digit, 1 byte a line", [4, 8, 1]));
+    all.into_iter().map(|exporter| Exporter { target: None, ..exporter }).collect()
+}
+
 fn binary() -> Exporter {
     Exporter::new(
         "binary",
