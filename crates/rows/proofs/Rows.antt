@@ -4,8 +4,9 @@ use mathlib.Core.Path.{_≡_, refl, ap, _∙_}
 use mathlib.Core.List.{List, [], _∷_, _++_}
 use Prim.Native.Nat.{ℕ, _+_, _*_, _/_, _%_, _<_, _≤_}
 use native.Mathlib.Omega.{arith}
-use lib.ListN.{length, length-append}
+use lib.ListN.{length, length-append, getD}
 use Rattle.bitvec.specs.Bits.{byteAt}
+use Rattle.bitvec.proofs.Words.{byte-whole}
 use Rattle.output.specs.Pieces.{pieces}
 use Rattle.output.proofs.Pieces.{pieces-none, pieces-next, pieces-append, pieces-equal, pieces-length}
 use Rattle.numbers.specs.declared.Letters.the-variants.{Lower}
@@ -34,12 +35,13 @@ pub bytes-length : (kind : ByteDigits) (bytes : List ℕ) (len i m : ℕ) → le
 unfolding bytesText
 bytes-length kind bytes len i m = pieces-length _ (perByte kind) m (λ j h. byte-length kind (byteAt bytes len (i + j)))
 
--- Two bytes in hexadecimal.
-pub two-text : (bytes : List ℕ) (len i : ℕ) → bytesText Hex bytes len i 2 ≡ byteText Lower (byteAt bytes len i) ++ byteText Lower (byteAt bytes len (i + 1))
-unfolding bytesText byteDigits pieces
-two-text bytes len i =
+-- Two bytes within the image.
+pub two-text : (kind : ByteDigits) (bytes : List ℕ) (len i : ℕ) → (i + 2) * 8 ≤ len → getD bytes i 0 < 256 → getD bytes (i + 1) 0 < 256
+    → bytesText kind bytes len i 2 ≡ byteDigits kind (getD bytes i 0) ++ byteDigits kind (getD bytes (i + 1) 0)
+unfolding bytesText pieces
+two-text kind bytes len i h l m =
     let place : i + 0 ≡ i = omega arith in
-    rw place
+    rw (place, byte-whole bytes len i (omega arith) l, byte-whole bytes len (i + 1) (omega arith) m)
 
 -- Four are two and two.
 pub four-text : (kind : ByteDigits) (bytes : List ℕ) (len i : ℕ) → bytesText kind bytes len i 4 ≡ bytesText kind bytes len i 2 ++ bytesText kind bytes len (i + 2) 2

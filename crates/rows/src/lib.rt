@@ -1,11 +1,11 @@
 // Whole bytes of an image in digits, in rows with a text behind each: the inner loops of the formats
 // that write lines, chunks or groups of whole bytes. All bytes are in the image, which the caller has
 // shown, so that none is tested here.
-ghost use mathlib.Core.List.{[], _∷_};
+ghost use mathlib.Core.List.{[], _∷_, _++_};
 ghost use Prim.Native.Nat.{_+_, _*_, _≤_, _<_};
 ghost use lib.ListN.{length};
 ghost use Rattle.output.specs.Writes.{Writes};
-ghost use Rattle.rows.specs.declared.ByteDigits.the-variants.{Hex};
+ghost use Rattle.numbers.specs.Digits.{digitsOf};
 ghost use Rattle.rows.specs.Rows.{perByte, byteDigits, bytesText, rowsText};
 use numbers::Letters;
 
@@ -178,19 +178,41 @@ fn put_wide(
     next
 }
 
-// Stores two bytes of the image from byte `place` on in hexadecimal.
-fn put_two(out: &mut [u8], at: usize, bytes: &[u8], len: usize, place: usize) -> usize
-    requires inside { ⌜ ((place + 2) * 8 ≤ len) × (place + 2 ≤ length (now bytes)) ⌝ }
-    requires room { ⌜ at + 4 ≤ length (now out) ⌝ }
-    ensures { λ r. ⌜ Writes (bytesText Hex (now (bytes .entry)) len place 2) (now (out .entry)) at (now (out .exit)) r ⌝ }
+// Stores two bytes in binary digits.
+fn put_two_bits(out: &mut [u8], at: usize, first: u8, second: u8) -> usize
+    requires { ⌜ at + 16 ≤ length (now out) ⌝ }
+    ensures { λ r. ⌜ Writes (digitsOf 1 8 first ++ digitsOf 1 8 second) (now (out .entry)) at (now (out .exit)) r ⌝ }
 {
-    hex_pair::put_pair(out, at, bytes[place], bytes[place + 1])
+    let next = eight_chars::put_bits(out, at, first);
+    eight_chars::put_bits(out, next, second)
 }
 
-// Stores `count` rows of two bytes in hexadecimal, and a character behind each.
+// Stores two bytes of the image from byte `place` on.
+fn put_two(
+    out: &mut [u8],
+    at: usize,
+    kind: ByteDigits,
+    bytes: &[u8],
+    len: usize,
+    place: usize,
+) -> usize
+    requires inside { ⌜ ((place + 2) * 8 ≤ len) × (place + 2 ≤ length (now bytes)) ⌝ }
+    requires room { ⌜ at + 2 * perByte kind ≤ length (now out) ⌝ }
+    ensures { λ r. ⌜ Writes (bytesText kind (now (bytes .entry)) len place 2) (now (out .entry)) at (now (out .exit)) r ⌝ }
+{
+    let first = bytes[place];
+    let second = bytes[place + 1];
+    match kind {
+        ByteDigits::Binary => put_two_bits(out, at, first, second),
+        ByteDigits::Hex => hex_pair::put_pair(out, at, first, second),
+    }
+}
+
+// Stores `count` rows of two bytes, and a character behind each.
 fn put_pairs(
     out: &mut [u8],
     at: usize,
+    kind: ByteDigits,
     bytes: &[u8],
     len: usize,
     first: usize,
@@ -198,21 +220,22 @@ fn put_pairs(
     count: usize,
 ) -> usize
     requires inside { ⌜ ((first + count * 2) * 8 ≤ len) × (first + count * 2 ≤ length (now bytes)) ⌝ }
-    requires room { ⌜ at + count * 5 ≤ length (now out) ⌝ }
-    ensures { λ r. ⌜ Writes (rowsText Hex (now (bytes .entry)) len first 2 (tail ∷ []) count) (now (out .entry)) at (now (out .exit)) r ⌝ }
+    requires room { ⌜ at + count * (2 * perByte kind + 1) ≤ length (now out) ⌝ }
+    ensures { λ r. ⌜ Writes (rowsText kind (now (bytes .entry)) len first 2 (tail ∷ []) count) (now (out .entry)) at (now (out .exit)) r ⌝ }
 {
     let mut next = at;
     for k in 0..count {
-        next = put_two(out, next, bytes, len, first + k * 2);
+        next = put_two(out, next, kind, bytes, len, first + k * 2);
         next = output::put(out, next, tail);
     }
     next
 }
 
-// Stores `count` rows of four bytes in hexadecimal, and a character behind each.
+// Stores `count` rows of four bytes, and a character behind each.
 fn put_fours(
     out: &mut [u8],
     at: usize,
+    kind: ByteDigits,
     bytes: &[u8],
     len: usize,
     first: usize,
@@ -220,57 +243,21 @@ fn put_fours(
     count: usize,
 ) -> usize
     requires inside { ⌜ ((first + count * 4) * 8 ≤ len) × (first + count * 4 ≤ length (now bytes)) ⌝ }
-    requires room { ⌜ at + count * 9 ≤ length (now out) ⌝ }
-    ensures { λ r. ⌜ Writes (rowsText Hex (now (bytes .entry)) len first 4 (tail ∷ []) count) (now (out .entry)) at (now (out .exit)) r ⌝ }
+    requires room { ⌜ at + count * (4 * perByte kind + 1) ≤ length (now out) ⌝ }
+    ensures { λ r. ⌜ Writes (rowsText kind (now (bytes .entry)) len first 4 (tail ∷ []) count) (now (out .entry)) at (now (out .exit)) r ⌝ }
 {
     let mut next = at;
     for k in 0..count {
-        next = put_two(out, next, bytes, len, first + k * 4);
-        next = put_two(out, next, bytes, len, first + k * 4 + 2);
+        next = put_two(out, next, kind, bytes, len, first + k * 4);
+        next = put_two(out, next, kind, bytes, len, first + k * 4 + 2);
         next = output::put(out, next, tail);
     }
     next
 }
 
-// Stores `count` rows of `width` bytes each in hexadecimal: rows of two and of four bytes with one
-// character behind have loops of their own.
-fn put_hex(
-    out: &mut [u8],
-    at: usize,
-    bytes: &[u8],
-    len: usize,
-    first: usize,
-    width: usize,
-    tail: &[u8],
-    count: usize,
-) -> usize
-    requires inside { ⌜ ((first + count * width) * 8 ≤ len) × (first + count * width ≤ length (now bytes)) ⌝ }
-    requires room { ⌜ at + count * (width * 2 + length (now tail)) ≤ length (now out) ⌝ }
-    ensures { λ r. ⌜ Writes (rowsText Hex (now (bytes .entry)) len first width (now (tail .entry)) count) (now (out .entry)) at (now (out .exit)) r ⌝ }
-{
-    if tail.len() == 1 {
-        if width == 2 {
-            return put_pairs(out, at, bytes, len, first, tail[0], count);
-        }
-        if width == 4 {
-            return put_fours(out, at, bytes, len, first, tail[0], count);
-        }
-    }
-    put_wide(
-        out,
-        at,
-        ByteDigits::Hex,
-        bytes,
-        len,
-        first,
-        width,
-        tail,
-        count,
-    )
-}
-
 // Stores `count` rows of `width` bytes each, from byte `first` on, and `tail` behind each. Rows of one
-// byte and rows in hexadecimal have loops of their own, since they are the most frequent ones.
+// byte, and rows of two and of four with one character behind, have loops of their own, since they are
+// the most frequent ones.
 pub fn put_rows(
     out: &mut [u8],
     at: usize,
@@ -289,8 +276,13 @@ pub fn put_rows(
     if width == 1 {
         return put_singles(out, at, kind, bytes, len, first, tail, count);
     }
-    match kind {
-        ByteDigits::Binary => put_wide(out, at, kind, bytes, len, first, width, tail, count),
-        ByteDigits::Hex => put_hex(out, at, bytes, len, first, width, tail, count),
+    if tail.len() == 1 {
+        if width == 2 {
+            return put_pairs(out, at, kind, bytes, len, first, tail[0], count);
+        }
+        if width == 4 {
+            return put_fours(out, at, kind, bytes, len, first, tail[0], count);
+        }
     }
+    put_wide(out, at, kind, bytes, len, first, width, tail, count)
 }

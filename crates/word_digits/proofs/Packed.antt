@@ -4,16 +4,17 @@ use mathlib.Core.Path.{_≡_, refl, sym, ap, _∙_}
 use mathlib.Core.List.{List, [], _∷_, map}
 use Prim.Native.Nat.{ℕ, suc, _+_, _-_, _*_, _/_, _%_, _^_, _<_, _≤_}
 use native.Mathlib.Omega.{arith}
-use native.Mathlib.Nat.{add-mul, zero-mul}
+use native.Mathlib.Nat.{add-mul, zero-mul, one-mul, div-one, mod-lt, mod-eq-of-lt}
 use lib.Bits.{bitAnd, and-block, and-mask, and-high, and-zero-l}
 use lib.ListN.{length}
-use lib.Pow.{pow-pos, pow-mono, shl-shr, shr-shr, high}
+use lib.Pow.{pow-pos, pow-mono, shl-shr, shr-shr, high, field, mod-mod-pow}
 use borrow.Author.Tests.{lt-ltb, le-ltb}
 use Rattle.output.specs.Pieces.{pieces}
 use Rattle.output.proofs.Order.{by-order}
 use Rattle.output.proofs.Pieces.{pieces-append, pieces-equal}
 use Rattle.numbers.specs.declared.Letters.the-variants.{Lower}
-use Rattle.numbers.specs.Digits.{digitChar}
+use Rattle.numbers.specs.Digits.{digitChar, digitsOf}
+use Rattle.eight_chars.specs.Word.{lowBytes}
 use Rattle.word_digits.specs.Packed.{packed}
 
 -- Each number of a list is below n.
@@ -69,6 +70,32 @@ pairs-apart e l p h =
     ∙ shl-shr (packed 65536 (map (λ (q : ℕ). q / 2 ^ e % 2 ^ e) l)) e in
     let seconds = and-parts (2 ^ e - 1) (omega (arith, few, pow-pos e)) l h in
     rw (firsts, seconds) (interleaved e l)
+
+-- The four pairs of the eight digits of e bits that a number ends with.
+abbrev pub pairsOf : ℕ → ℕ → List ℕ
+pairsOf e v = v / 2 ^ (6 * e) % 2 ^ (e + e) ∷ v / 2 ^ (4 * e) % 2 ^ (e + e) ∷ v / 2 ^ (2 * e) % 2 ^ (e + e) ∷ v % 2 ^ (e + e) ∷ []
+
+-- They are parts of a word.
+pub pairs-below : (e v : ℕ) → 2 ^ (e + e) ≤ 65536 → Below 65536 (pairsOf e v)
+pairs-below e v h =
+    let below : (x : ℕ) → x % 2 ^ (e + e) < 65536 = λ x. omega (arith, mod-lt x (pow-pos (e + e))) in
+    (below (v / 2 ^ (6 * e)), (below (v / 2 ^ (4 * e)), (below (v / 2 ^ (2 * e)), (below v, tt))))
+
+-- Digits of e bits.
+pub apart-below : (e n : ℕ) (l : List ℕ) → 2 ^ e ≤ n → Below n (apart e l)
+apart-below e n [] h = tt
+apart-below e n (q ∷ l) h = (omega (arith, mod-lt (q / 2 ^ e) (pow-pos e)), (omega (arith, mod-lt q (pow-pos e)), apart-below e n l h))
+
+-- The digits of the pairs are those of the number.
+pub pairs-digits : (e v : ℕ) → chars (apart e (pairsOf e v)) ≡ digitsOf e 8 v
+unfolding digitsOf pieces
+pairs-digits e v =
+    let first : (x : ℕ) → x % 2 ^ (e + e) / 2 ^ e % 2 ^ e ≡ x / 2 ^ e % 2 ^ e = λ x. rw (field x e e) (mod-eq-of-lt (mod-lt (x / 2 ^ e) (pow-pos e))) in
+    let second : (x : ℕ) → x % 2 ^ (e + e) % 2 ^ e ≡ x % 2 ^ e = λ x. mod-mod-pow x e e in
+    let n7 : 6 * e + e ≡ 7 * e = omega arith in
+    let n5 : 4 * e + e ≡ 5 * e = omega arith in
+    let n3 : 2 * e + e ≡ 3 * e = omega arith in
+    rw (first (v / 2 ^ (6 * e)), second (v / 2 ^ (6 * e)), first (v / 2 ^ (4 * e)), second (v / 2 ^ (4 * e)), first (v / 2 ^ (2 * e)), second (v / 2 ^ (2 * e)), first v, second v, shr-shr v (6 * e) e, shr-shr v (4 * e) e, shr-shr v (2 * e) e, n7, n5, n3, one-mul e, zero-mul e, div-one v)
 
 -- The bytes of a number without its first.
 byte-next : (w b n : ℕ) → b < 256 → (w * 256 + b) / 2 ^ (8 + n) ≡ w / 2 ^ n
@@ -126,3 +153,18 @@ letter-chars (d ∷ l) h =
     let sum : packed 256 l * 256 + d + (packed 256 (like 118 l) * 256 + 118) ≡ w * 256 + (d + 118) = omega arith in
     let tops = ap (λ (x : ℕ). bitAnd (x / 128) (packed 256 (like 1 l) * 256 + 1)) sum ∙ top-next w (packed 256 (like 1 l)) (d + 118) (omega (arith, h .0)) in
     omega (arith, letter-chars l (h .1), digit-below d (h .0), tops)
+
+-- The digits of e bits of a number's pairs, as they are cut apart.
+abbrev pub cut : ℕ → ℕ → ℕ
+cut e word = bitAnd word (packed 65536 (like (2 ^ (e + e) - 2 ^ e) (pairsOf e 0))) / 2 ^ e + bitAnd word (packed 65536 (like (2 ^ e - 1) (pairsOf e 0))) * 256
+
+-- Where no digit is a letter, they and 48 in each byte are the number's characters.
+pub plain-word : (e v : ℕ) → e ≤ 3 → lowBytes (cut e (packed 65536 (pairsOf e v)) + packed 256 (like 48 (apart e (pairsOf e v)))) ≡ digitsOf e 8 v
+unfolding lowBytes
+plain-word e v h =
+    let few = pow-mono {i = e} {j = 3} h in
+    let fit = pow-mono {i = e + e} {j = 16} (omega (arith, h)) in
+    ap (λ (x : ℕ). lowBytes (x + packed 256 (like 48 (apart e (pairsOf e v))))) (pairs-apart e (pairsOf e v) fit (pairs-below e v fit))
+    ∙ ap lowBytes (plain-chars (apart e (pairsOf e v)) (apart-below e 8 (pairsOf e v) few))
+    ∙ packed-bytes _ (chars-small (apart e (pairsOf e v)) (apart-below e 32 (pairsOf e v) (omega (arith, few))))
+    ∙ pairs-digits e v

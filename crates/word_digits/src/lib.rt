@@ -1,4 +1,4 @@
-// The eight digits that a number ends with. Those of 3 and of 5 bits are computed in one word by fixed
+// The eight digits that a number ends with. Those of 2, 3 and 5 bits are computed in one word by fixed
 // shifts and masks, the first digit in its lowest byte, and stored at once.
 ghost use mathlib.Core.Path.{_≡_};
 ghost use mathlib.Core.List.{[], _∷_};
@@ -18,8 +18,23 @@ fn pack(q0: u64, q1: u64, q2: u64, q3: u64) -> u64
     q0 + q1 * 0x1_0000 + q2 * 0x1_0000_0000 + q3 * 0x1_0000_0000_0000
 }
 
-// The characters of eight digits of 3 bits: pairs of digits are cut apart in one step, and digits below
+// The characters of eight digits of 2 bits: pairs of digits are cut apart in one step, and digits below
 // 8 are no letters.
+fn two_word(word: u64) -> u64
+    ensures { λ r. ⌜ lowBytes r ≡ digitsOf 2 8 word ⌝ }
+{
+    let pairs = pack(
+        (word >> 12) % 16,
+        (word >> 8) % 16,
+        (word >> 4) % 16,
+        word % 16,
+    );
+    let firsts = (pairs & 0xc_000c_000c_000c) >> 2;
+    let seconds = pairs & 0x3_0003_0003_0003;
+    firsts + seconds * 256 + 0x3030_3030_3030_3030
+}
+
+// The characters of eight digits of 3 bits, as above.
 fn three_word(word: u64) -> u64
     ensures { λ r. ⌜ lowBytes r ≡ digitsOf 3 8 word ⌝ }
 {
@@ -72,6 +87,9 @@ pub fn put_eight(out: &mut [u8], at: usize, word: u64, width: usize) -> usize
     requires { ⌜ (width ≤ 5) × (at + 8 ≤ length (now out)) ⌝ }
     ensures { λ r. ⌜ Writes (digitsOf width 8 word) (now (out .entry)) at (now (out .exit)) r ⌝ }
 {
+    if width == 2 {
+        return eight_chars::put_word(out, at, two_word(word));
+    }
     if width == 3 {
         return eight_chars::put_word(out, at, three_word(word));
     }

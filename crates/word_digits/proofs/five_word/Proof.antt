@@ -10,13 +10,9 @@ use Rattle.output.specs.Pieces.{pieces}
 use Rattle.numbers.specs.Digits.{digitsOf}
 use Rattle.eight_chars.specs.Word.{lowBytes}
 use Rattle.word_digits.specs.Packed.{packed}
-use Rattle.word_digits.proofs.Packed.{Below, apart, chars, packed-bytes, pairs-apart, chars-small, letter-chars}
+use Rattle.word_digits.proofs.Packed.{apart, packed-bytes, pairsOf, pairs-below, apart-below, pairs-digits, pairs-apart, chars-small, letter-chars}
 use Rattle.word_digits.proofs.five_word.Statement.{statement}
 use Rattle.word_digits.proofs.five_word.Tie as tie
-
--- the pairs of digits
-abbrev pairs : ℕ → List ℕ
-pairs v = v / 2 ^ 30 % 1024 ∷ v / 2 ^ 20 % 1024 ∷ v / 2 ^ 10 % 1024 ∷ v % 1024 ∷ []
 
 -- the digits, as the code finds them
 abbrev digits : ℕ → ℕ
@@ -25,39 +21,18 @@ digits word = bitAnd word 279227437569541088 / 32 + bitAnd word 8725857424048159
 digits-small : (word : ℕ) → digits word ≤ 2242545357980376863
 digits-small word = omega (arith, and-le-r word 279227437569541088, and-le-r word 8725857424048159)
 
-small : (n v : ℕ) → 32 ≤ n → Below n (apart 5 (pairs v))
-small n v h = (omega arith, (omega arith, (omega arith, (omega arith, (omega arith, (omega arith, (omega arith, (omega arith, tt))))))))
-
--- they are those of the number
-same : (v : ℕ) → chars (apart 5 (pairs v)) ≡ digitsOf 5 8 v
-unfolding digitsOf pieces
-same v =
-    let d0 : v / 2 ^ 30 % 1024 / 32 % 32 ≡ v / 2 ^ 35 % 32 = omega arith in
-    let d1 : v / 2 ^ 30 % 1024 % 32 ≡ v / 2 ^ 30 % 32 = omega arith in
-    let d2 : v / 2 ^ 20 % 1024 / 32 % 32 ≡ v / 2 ^ 25 % 32 = omega arith in
-    let d3 : v / 2 ^ 20 % 1024 % 32 ≡ v / 2 ^ 20 % 32 = omega arith in
-    let d4 : v / 2 ^ 10 % 1024 / 32 % 32 ≡ v / 2 ^ 15 % 32 = omega arith in
-    let d5 : v / 2 ^ 10 % 1024 % 32 ≡ v / 2 ^ 10 % 32 = omega arith in
-    let d6 : v % 1024 / 32 % 32 ≡ v / 2 ^ 5 % 32 = omega arith in
-    let d7 : v % 1024 % 32 ≡ v / 1 % 32 = omega arith in
-    rw (d0, d1, d2, d3, d4, d5, d6, d7)
-
-found : (v : ℕ) → digits (packed 65536 (pairs v)) ≡ packed 256 (apart 5 (pairs v))
-unfolding packed
-found v = pairs-apart 5 (pairs v) (omega arith) (omega arith, (omega arith, (omega arith, (omega arith, tt))))
-
 -- which of them are letters
 abbrev letters : ℕ → ℕ
 letters word = bitAnd ((digits word + 8536140394893047414) / 128) 72340172838076673
 
 right : (v : ℕ)
-    → (let word = packed 65536 (pairs v) in lowBytes (digits word + 3472328296227680304 + letters word * 39)) ≡ digitsOf 5 8 v
+    → (let word = packed 65536 (pairsOf 5 v) in lowBytes (digits word + 3472328296227680304 + letters word * 39)) ≡ digitsOf 5 8 v
 unfolding packed lowBytes
 right v =
-    ap (λ (x : ℕ). lowBytes (x + 3472328296227680304 + bitAnd ((x + 8536140394893047414) / 128) 72340172838076673 * 39)) (found v)
-    ∙ ap lowBytes (letter-chars (apart 5 (pairs v)) (small 32 v (omega arith)))
-    ∙ packed-bytes _ (chars-small (apart 5 (pairs v)) (small 32 v (omega arith)))
-    ∙ same v
+    ap (λ (x : ℕ). lowBytes (x + 3472328296227680304 + bitAnd ((x + 8536140394893047414) / 128) 72340172838076673 * 39)) (pairs-apart 5 (pairsOf 5 v) (omega arith) (pairs-below 5 v (omega arith)))
+    ∙ ap lowBytes (letter-chars (apart 5 (pairsOf 5 v)) (apart-below 5 32 (pairsOf 5 v) (omega arith)))
+    ∙ packed-bytes _ (chars-small (apart 5 (pairsOf 5 v)) (apart-below 5 32 (pairsOf 5 v) (omega arith)))
+    ∙ pairs-digits 5 v
 
 letters-small : (word : ℕ) → letters word ≤ 72340172838076673
 letters-small word = and-le-r ((digits word + 8536140394893047414) / 128) 72340172838076673
