@@ -5,8 +5,11 @@ ghost use mathlib.Core.Bool.{cond};
 ghost use mathlib.Core.List.{List};
 ghost use Prim.Native.Nat.{ℕ, _+_, _*_, _/_, _≤_, _<_, _^_};
 ghost use lib.ListN.{length};
+ghost use Rattle.output.specs.Ascii.{ascii};
 ghost use Rattle.output.specs.Writes.{Writes};
 ghost use Rattle.numbers.specs.Digits.{digitCount};
+ghost use Rattle.rows.specs.declared.ByteDigits.the-variants.{Hex};
+ghost use Rattle.rows.specs.Rows.{rowsText};
 ghost use Rattle.dump_line.specs.Line.{dumpDigit, printed, dumpChar, dumpByte, digitColumn, charColumn, dumpLine};
 use bitvec::BitOffset;
 use numbers::Letters;
@@ -128,6 +131,26 @@ fn put_char_column(
     next
 }
 
+// Stores a group of up to four whole bytes of the image in hexadecimal, with a space behind each: four
+// are the most frequent ones.
+fn put_group(
+    out: &mut [u8],
+    at: usize,
+    image: &[u8],
+    bits: usize,
+    first: usize,
+    count: usize,
+) -> usize
+    requires inside { ⌜ ((first + count) * 8 ≤ bits) × (first + count ≤ length (now image)) ⌝ }
+    requires room { ⌜ at + count * 3 ≤ length (now out) ⌝ }
+    ensures { λ r. ⌜ Writes (rowsText Hex (now (image .entry)) bits first 1 (ascii " ") count) (now (out .entry)) at (now (out .exit)) r ⌝ }
+{
+    if count == 4 {
+        return rows::put_by_twos(out, at, image, bits, first, b' ', 2);
+    }
+    rows::put_rows(out, at, ByteDigits::Hex, image, bits, first, 1, b" ", count)
+}
+
 // Stores the `count` bytes of a line from byte `first` on, which are whole bytes of the image, in
 // hexadecimal: groups of four with a space between them.
 fn put_groups(
@@ -145,31 +168,11 @@ fn put_groups(
     let mut next = at;
     let mut j = 0;
     while 4 < count - j {
-        next = rows::put_rows(
-            out,
-            next,
-            ByteDigits::Hex,
-            image,
-            bits,
-            first + j,
-            1,
-            b" ",
-            4,
-        );
+        next = put_group(out, next, image, bits, first + j, 4);
         next = output::put(out, next, b' ');
         j += 4;
     }
-    rows::put_rows(
-        out,
-        next,
-        ByteDigits::Hex,
-        image,
-        bits,
-        first + j,
-        1,
-        b" ",
-        count - j,
-    )
+    put_group(out, next, image, bits, first + j, count - j)
 }
 
 // Stores the `count` bytes of a line from byte `first` on, which are whole bytes of the image, as

@@ -1,6 +1,6 @@
 // Two bytes as four hexadecimal digits, which are computed in one word and stored at once.
 ghost use mathlib.Core.Path.{_≡_};
-ghost use mathlib.Core.List.{_++_};
+ghost use mathlib.Core.List.{[], _∷_, _++_};
 ghost use Prim.Native.Nat.{_+_, _≤_};
 ghost use lib.ListN.{length};
 ghost use Rattle.output.specs.Writes.{Writes};
@@ -37,4 +37,18 @@ pub fn put_pair(out: &mut [u8], at: usize, first: u8, second: u8) -> usize
     ensures { λ r. ⌜ Writes (byteText Lower first ++ byteText Lower second) (now (out .entry)) at (now (out .exit)) r ⌝ }
 {
     put_four(out, at, pair_word(first, second))
+}
+
+// Stores two bytes as two hexadecimal digits each, and a character behind each of them.
+pub fn put_parted(out: &mut [u8], at: usize, first: u8, second: u8, tail: u8) -> usize
+    requires { ⌜ at + 6 ≤ length (now out) ⌝ }
+    ensures { λ r. ⌜ Writes ((byteText Lower first ++ (tail ∷ [])) ++ (byteText Lower second ++ (tail ∷ []))) (now (out .entry)) at (now (out .exit)) r ⌝ }
+{
+    let digits = pair_word(first, second);
+    let mut next = output::put(out, at, (digits % 256) as u8);
+    next = output::put(out, next, ((digits >> 8) % 256) as u8);
+    next = output::put(out, next, tail);
+    next = output::put(out, next, ((digits >> 16) % 256) as u8);
+    next = output::put(out, next, ((digits >> 24) % 256) as u8);
+    output::put(out, next, tail)
 }

@@ -1,7 +1,7 @@
 -- Laws of whole bytes in digits.
 -- Assumes nothing.
 use mathlib.Core.Path.{_≡_, refl, ap, _∙_}
-use mathlib.Core.List.{List, [], _∷_, _++_}
+use mathlib.Core.List.{List, [], _∷_, _++_, append-assoc}
 use Prim.Native.Nat.{ℕ, _+_, _*_, _/_, _%_, _<_, _≤_}
 use native.Mathlib.Omega.{arith}
 use lib.ListN.{length, length-append, getD}
@@ -75,3 +75,16 @@ unfolding bytesText pieces
 singles-next kind bytes len i tail n =
     let place : i + n * 1 + 0 ≡ i + n = omega arith in
     rw (rows-next kind bytes len i 1 tail n, place)
+
+-- Two rows of one byte more, which are within the image.
+pub singles-two : (kind : ByteDigits) (bytes : List ℕ) (len i : ℕ) (tail : List ℕ) (n : ℕ)
+    → (i + n * 2 + 2) * 8 ≤ len → getD bytes (i + n * 2) 0 < 256 → getD bytes (i + n * 2 + 1) 0 < 256
+    → rowsText kind bytes len i 1 tail ((n + 1) * 2)
+    ≡ rowsText kind bytes len i 1 tail (n * 2) ++ ((byteDigits kind (getD bytes (i + n * 2) 0) ++ tail) ++ (byteDigits kind (getD bytes (i + n * 2 + 1) 0) ++ tail))
+singles-two kind bytes len i tail n h l m =
+    let step : (n + 1) * 2 ≡ n * 2 + 1 + 1 = omega arith in
+    let place : i + (n * 2 + 1) ≡ i + n * 2 + 1 = omega arith in
+    let first = byte-whole bytes len (i + n * 2) (omega (arith, h)) l in
+    let second = byte-whole bytes len (i + n * 2 + 1) (omega (arith, h)) m in
+    rw (step, singles-next kind bytes len i tail (n * 2 + 1), singles-next kind bytes len i tail (n * 2), place, first, second)
+    (append-assoc (rowsText kind bytes len i 1 tail (n * 2)) (byteDigits kind (getD bytes (i + n * 2) 0) ++ tail) (byteDigits kind (getD bytes (i + n * 2 + 1) 0) ++ tail))

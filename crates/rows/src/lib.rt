@@ -6,6 +6,7 @@ ghost use Prim.Native.Nat.{_+_, _*_, _≤_, _<_};
 ghost use lib.ListN.{length};
 ghost use Rattle.output.specs.Writes.{Writes};
 ghost use Rattle.numbers.specs.Digits.{digitsOf};
+ghost use Rattle.rows.specs.declared.ByteDigits.the-variants.{Hex};
 ghost use Rattle.rows.specs.Rows.{perByte, byteDigits, bytesText, rowsText};
 use numbers::Letters;
 
@@ -251,6 +252,29 @@ fn put_fours(
         next = put_two(out, next, kind, bytes, len, first + k * 4);
         next = put_two(out, next, kind, bytes, len, first + k * 4 + 2);
         next = output::put(out, next, tail);
+    }
+    next
+}
+
+// Stores twice `count` bytes in hexadecimal, from byte `first` on, and a character behind each: by two,
+// for lines of so few bytes that vector code does not pay.
+pub fn put_by_twos(
+    out: &mut [u8],
+    at: usize,
+    bytes: &[u8],
+    len: usize,
+    first: usize,
+    tail: u8,
+    count: usize,
+) -> usize
+    requires inside { ⌜ ((first + count * 2) * 8 ≤ len) × (first + count * 2 ≤ length (now bytes)) ⌝ }
+    requires room { ⌜ at + count * 6 ≤ length (now out) ⌝ }
+    ensures { λ r. ⌜ Writes (rowsText Hex (now (bytes .entry)) len first 1 (tail ∷ []) (count * 2)) (now (out .entry)) at (now (out .exit)) r ⌝ }
+{
+    let mut next = at;
+    for k in 0..count {
+        let place = first + k * 2;
+        next = hex_pair::put_parted(out, next, bytes[place], bytes[place + 1], tail);
     }
     next
 }

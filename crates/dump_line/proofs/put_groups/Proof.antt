@@ -19,14 +19,14 @@ use Rattle.dump_line.proofs.put_groups.Statement.{statement}
 use Rattle.dump_line.proofs.put_groups.Tie as tie
 
 abbrev Inv-loop : tie.InvT-loop
-Inv-loop out₀ at image bits first count next₀ j₀ t10 t11 out next j =
+Inv-loop out₀ at image bits first count next₀ j₀ out next j =
     (j < count)
     × (j % 4 ≡ 0)
     × Writes (before Hex image bits first j) out₀ at out next
     × (length out ≡ length out₀)
 
 abbrev μ-loop : tie.MeasureT-loop
-μ-loop out₀ at image bits first count next₀ j₀ t10 t11 out next j = count - j
+μ-loop out₀ at image bits first count next₀ j₀ out next j = count - j
 
 -- the row of a group of n bytes
 abbrev row : tie.At-loop Inv-loop μ-loop → ℕ → List ℕ
@@ -50,15 +50,12 @@ loop-holds c = (c .before .before .pre .0 .0, refl, rw joined-none (writes-nothi
 sub-loop : tie.Need-sub-loop Inv-loop μ-loop
 sub-loop c = search needs
 
-add-put-rows : tie.Need-add-put-rows Inv-loop μ-loop
-add-put-rows c = search needs
+add-put-group : tie.Need-add-put-group Inv-loop μ-loop
+add-put-group c = search needs
 
-slice-aggregate-put-rows : tie.Need-slice-aggregate-put-rows Inv-loop μ-loop
-slice-aggregate-put-rows c = search needs
-
-put-rows-requires : tie.Need-put-rows-requires Inv-loop μ-loop
-put-rows-requires c κs =
-    let turn = c .before .before in
+put-group-requires : tie.Need-put-group-requires Inv-loop μ-loop
+put-group-requires c κs =
+    let turn = c .before in
     let l = turn .before in
     let start = l .before .before .before in
     let a = start .args in
@@ -68,8 +65,8 @@ put-rows-requires c κs =
 put-requires : tie.Need-put-requires Inv-loop μ-loop
 put-requires c κs =
     let put = c .before .before .before in
-    let turn = put .before .before .before in
-    omega (arith, room turn, put .put-rows .ensures .next, writes-length {t = row (turn .before) 4} (put .put-rows .ensures))
+    let turn = put .before .before in
+    omega (arith, room turn, put .put-group .ensures .next, writes-length {t = row (turn .before) 4} (put .put-group .ensures))
 
 add-j : tie.Need-add-j Inv-loop μ-loop
 add-j c = search needs
@@ -81,28 +78,25 @@ loop-again : tie.Need-loop-again Inv-loop μ-loop
 loop-again c =
     let space = c .before .before in
     let put = space .before .before .before .before in
-    let l = put .before .before .before .before in
+    let l = put .before .before .before in
     let start = l .before .before .before in
     let a = start .args in (
       omega arith,
       omega arith,
       rw (group-next Hex (a .image .now) (a .bits) (a .first) (l .loop .j) (l .loop .inv .1) (omega (arith, start .pre .0 .1)))
-          (writes-then (l .loop .inv .2) (writes-then {a = row l 4} (put .put-rows .ensures) (space .put .ensures))),
-      omega (arith, writes-length {t = row l 4} (put .put-rows .ensures), writes-length (space .put .ensures)),
+          (writes-then (l .loop .inv .2) (writes-then {a = row l 4} (put .put-group .ensures) (space .put .ensures))),
+      omega (arith, writes-length {t = row l 4} (put .put-group .ensures), writes-length (space .put .ensures)),
     )
 
-add-put-rows-2 : tie.Need-add-put-rows-2 Inv-loop μ-loop
-add-put-rows-2 c = search needs
+add-put-group-2 : tie.Need-add-put-group-2 Inv-loop μ-loop
+add-put-group-2 c = search needs
 
-slice-aggregate-put-rows-2 : tie.Need-slice-aggregate-put-rows-2 Inv-loop μ-loop
-slice-aggregate-put-rows-2 c = search needs
+sub-put-group : tie.Need-sub-put-group Inv-loop μ-loop
+sub-put-group c = search needs
 
-sub-put-rows : tie.Need-sub-put-rows Inv-loop μ-loop
-sub-put-rows c = search needs
-
-put-rows-requires-2 : tie.Need-put-rows-requires-2 Inv-loop μ-loop
-put-rows-requires-2 c κs =
-    let l = c .before .before .before in
+put-group-requires-2 : tie.Need-put-group-requires-2 Inv-loop μ-loop
+put-group-requires-2 c κs =
+    let l = c .before .before in
     let start = l .before .before .before in
     let a = start .args in
     let j = l .loop .j in
@@ -117,11 +111,11 @@ same-length c = search needs
 returns : tie.Need-returns Inv-loop μ-loop
 returns c =
     let put = c .before .before in
-    let l = put .before .before .before .before in
+    let l = put .before .before .before in
     let start = l .before .before .before in
     let a = start .args in
     rw (group-last Hex (a .image .now) (a .bits) (a .first) (l .loop .j) (a .count) (l .loop .inv .1) (omega arith) (omega arith) (start .pre .0 .1))
-    (writes-then {b = row l (a .count - l .loop .j)} (l .loop .inv .2) (put .put-rows2 .ensures))
+    (writes-then {b = row l (a .count - l .loop .j)} (l .loop .inv .2) (put .put-group2 .ensures))
 
 pub put-groups-spec : {M : Type 1} → statement M
 put-groups-spec =
@@ -131,16 +125,14 @@ put-groups-spec =
     μ-loop
     loop-holds
     sub-loop
-    add-put-rows
-    slice-aggregate-put-rows
-    put-rows-requires
+    add-put-group
+    put-group-requires
     put-requires
     add-j
     loop-less
     loop-again
-    add-put-rows-2
-    slice-aggregate-put-rows-2
-    sub-put-rows
-    put-rows-requires-2
+    add-put-group-2
+    sub-put-group
+    put-group-requires-2
     same-length
     returns)
