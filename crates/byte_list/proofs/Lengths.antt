@@ -3,24 +3,21 @@
 use mathlib.Core.Path.{_≡_, refl, _∙_}
 use mathlib.Core.Bool.{Bool, true, false, cond}
 use mathlib.Core.List.{List, _++_}
-use Prim.Native.Nat.{ℕ, _+_, _-_, _*_, _/_, _%_, _≤_, _<_, max}
+use Prim.Native.Nat.{ℕ, _+_, _-_, _*_, _/_, _%_, _≤_, _<_}
 use native.Mathlib.Omega.{arith}
 use lib.Dec.{eqb}
 use lib.ListN.{length, length-append}
 use borrow.Author.Tests.{ne-eqb}
 use Rattle.bitvec.specs.Bits.{byteAt}
 use Rattle.bitvec.specs.Size.{ceilDiv}
-use Rattle.output.specs.Ascii.{ascii}
 use Rattle.output.specs.Pieces.{pieces, every}
 use Rattle.output.proofs.Order.{by-order}
 use Rattle.output.proofs.Joined.{joined-length, between-length, every-length}
 use Rattle.numbers.specs.declared.Letters.the-variants.{Lower}
 use Rattle.numbers.specs.Digits.{byteText, digitCount}
-use Rattle.numbers.proofs.Digits.{count-last, number-length, padded-length}
+use Rattle.numbers.proofs.Digits.{count-last, number-length}
 use Rattle.numbers.proofs.Decimal.{count-two, count-three}
-use Rattle.byte_list.specs.declared.LineStart.the-variants.{Newline, Comment}
 use Rattle.byte_list.specs.Bytes.{byteIn, byteList}
-use Rattle.byte_list.specs.Start.{addressComment, lineStart}
 
 -- A byte in radix 10 has its digits.
 pub decimal-length : (b : ℕ) → length (byteIn 10 b) ≡ digitCount 10 b
@@ -38,18 +35,6 @@ decimal-small b h =
 pub hex-length : (radix b : ℕ) → (radix ≡ 10 → ⊥) → length (byteIn radix b) ≡ 4
 unfolding byteIn byteText
 hex-length radix b h = simp (ne-eqb radix 10 h)
-
--- The comment: its address, and ten characters.
-pub comment-length : (width k : ℕ) → length (addressComment width k) ≡ max width (digitCount 16 k) + 10
-unfolding addressComment
-comment-length width k = simp (length-append, padded-length, number-length) (omega arith)
-
--- A line starts with a newline, and where it has a comment with that too.
-pub newline-length : (k : ℕ) → length (lineStart Newline k) ≡ 1
-newline-length k = refl
-
-pub start-length : (width k : ℕ) → length (lineStart (Comment width) k) ≡ length (addressComment width k) + 1
-start-length width k = length-append (ascii "\n") (addressComment width k) ∙ omega arith
 
 -- The list: its bytes and what stands between them, where all lines start with texts of one length.
 pub list-length : (radix : ℕ) (s : List ℕ) (line : ℕ → List ℕ) (bytes : List ℕ) (len start : ℕ)

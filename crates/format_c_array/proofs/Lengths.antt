@@ -8,10 +8,10 @@ use lib.ListN.{length, length-append}
 use Rattle.bitvec.specs.Size.{ceilDiv}
 use Rattle.output.specs.Ascii.{ascii}
 use Rattle.numbers.proofs.Digits.{count-rises}
-use Rattle.byte_list.specs.declared.LineStart.the-variants.{Comment}
+use Rattle.byte_lines.specs.declared.LineStart.the-variants.{Comment}
 use Rattle.byte_list.specs.Bytes.{byteList}
-use Rattle.byte_list.specs.Start.{addressComment, lineStart}
-use Rattle.byte_list.proofs.Lengths.{comment-length}
+use Rattle.byte_lines.specs.Start.{addressComment, lineStart}
+use Rattle.byte_lines.proofs.Lengths.{comment-length}
 use Rattle.format_c_array.specs.CArray.{addressWidth, cArrayText}
 
 -- The array of C: the list, the first comment, and the words around them.

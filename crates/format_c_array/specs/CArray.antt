@@ -8,7 +8,7 @@ use Rattle.output.specs.Ascii.{ascii}
 use Rattle.outcome.specs.Outcome.{Outcome, refused, inRoom}
 use Rattle.numbers.specs.Digits.{digitCount}
 use Rattle.byte_list.specs.Bytes.{badRadix, byteList}
-use Rattle.byte_list.specs.Start.{addressComment}
+use Rattle.byte_lines.specs.Start.{addressComment}
 
 -- The addresses are as wide as the last one.
 abbrev pub addressWidth : ℕ → ℕ

@@ -7,7 +7,7 @@ ghost use Rattle.bitvec.specs.Size.{ceilDiv};
 ghost use Rattle.output.specs.Writes.{Writes};
 ghost use Rattle.outcome.specs.Outcome.{Exports};
 ghost use Rattle.format_c_array.specs.CArray.{addressWidth, cArrayText, cArrayOutcome};
-use byte_list::LineStart;
+use byte_lines::LineStart;
 use outcome::Export;
 
 // The length of the array of `count` bytes whose addresses have `width` digits.
@@ -31,8 +31,8 @@ fn write_c_array(
     ensures { λ r. ⌜ Writes (cArrayText radix (now (image .entry)) bits) (now (out .entry)) 0 (now (out .exit)) r ⌝ }
 {
     let mut next = output::put_all(out, 0, b"const unsigned char data[] = {\n");
-    next = byte_list::put_comment(out, next, width, 0);
-    next = byte_list::put_list(
+    next = byte_lines::put_comment(out, next, width, 0);
+    next = byte_lines::put_list(
         out,
         next,
         image,

@@ -3,7 +3,7 @@
 ghost use lib.ListN.{length};
 ghost use Rattle.outcome.specs.Outcome.{Exports};
 ghost use Rattle.format_separator.specs.Separator.{separatorOutcome};
-use byte_list::LineStart;
+use byte_lines::LineStart;
 use outcome::Export;
 
 // The bytes in radix 10 or 16, with a separator of at most 256 bytes and sixteen bytes a line.
@@ -30,7 +30,7 @@ pub fn format_separator(
     if out.len() < needed {
         return Export::NoRoom(needed);
     }
-    Export::Text(byte_list::put_list(
+    Export::Text(byte_lines::put_list(
         out,
         0,
         image,

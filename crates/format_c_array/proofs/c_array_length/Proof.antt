@@ -7,9 +7,9 @@ use borrow.Author.Needs.{needs}
 use Rattle.bitvec.specs.Size.{ceilDiv}
 use Rattle.output.specs.Ascii.{ascii}
 use Rattle.numbers.proofs.Digits.{count-small}
-use Rattle.byte_list.specs.declared.LineStart.the-variants.{Comment}
-use Rattle.byte_list.specs.Start.{lineStart}
-use Rattle.byte_list.proofs.Lengths.{start-length}
+use Rattle.byte_lines.specs.declared.LineStart.the-variants.{Comment}
+use Rattle.byte_lines.specs.Start.{lineStart}
+use Rattle.byte_lines.proofs.Lengths.{start-length}
 use Rattle.format_c_array.specs.CArray.{addressWidth}
 use Rattle.format_c_array.proofs.Lengths.{c-array-parts, address-length}
 use Rattle.format_c_array.proofs.c_array_length.Statement.{statement}

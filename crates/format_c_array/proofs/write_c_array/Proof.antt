@@ -6,9 +6,9 @@ use borrow.Author.Needs.{needs}
 use lib.ListN.{length}
 use Rattle.output.specs.Ascii.{ascii}
 use Rattle.output.proofs.Writes.{writes-then}
-use Rattle.byte_list.specs.declared.LineStart.the-variants.{Comment}
+use Rattle.byte_lines.specs.declared.LineStart.the-variants.{Comment}
 use Rattle.byte_list.specs.Bytes.{byteList}
-use Rattle.byte_list.specs.Start.{addressComment, lineStart}
+use Rattle.byte_lines.specs.Start.{addressComment, lineStart}
 use Rattle.format_c_array.specs.CArray.{cArrayText}
 use Rattle.format_c_array.proofs.Lengths.{c-array-parts}
 use Rattle.format_c_array.proofs.write_c_array.Statement.{statement}

@@ -10,10 +10,10 @@ use Rattle.bitvec.specs.Size.{badSize, ceilDiv}
 use Rattle.bitvec.proofs.Size.{size-good}
 use Rattle.outcome.specs.Outcome.{tooLong}
 use Rattle.outcome.proofs.Outcome.{short, exports-text, exports-no-room}
-use Rattle.byte_list.specs.declared.LineStart.the-variants.{Newline}
+use Rattle.byte_lines.specs.declared.LineStart.the-variants.{Newline}
 use Rattle.byte_list.specs.Bytes.{badRadix}
-use Rattle.byte_list.specs.Start.{lineStart}
-use Rattle.byte_list.proofs.Lengths.{newline-length}
+use Rattle.byte_lines.specs.Start.{lineStart}
+use Rattle.byte_lines.proofs.Lengths.{newline-length}
 use Rattle.format_separator.specs.Separator.{separatorText, separatorOutcome}
 use Rattle.format_separator.proofs.format_separator.Statement.{statement}
 use Rattle.format_separator.proofs.format_separator.Tie as tie

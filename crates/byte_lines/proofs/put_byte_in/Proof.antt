@@ -1,4 +1,4 @@
--- `byte_list::put_byte_in` meets its contract: one case for each radix.
+-- `byte_lines::put_byte_in` meets its contract: one case for each radix.
 -- Assumes nothing.
 use mathlib.Core.Path.{ap}
 use native.Mathlib.Omega.{arith}
@@ -7,10 +7,10 @@ use lib.ListN.{length}
 use borrow.Author.Tests.{eq-eqb, ne-eqb}
 use borrow.Author.Needs.{needs}
 use Rattle.output.proofs.Writes.{writes-then}
 use Rattle.byte_list.specs.Bytes.{byteIn}
 use Rattle.byte_list.proofs.Lengths.{decimal-length, hex-length}
-use Rattle.byte_list.proofs.put_byte_in.Statement.{statement}
-use Rattle.byte_list.proofs.put_byte_in.Tie as tie
+use Rattle.byte_lines.proofs.put_byte_in.Statement.{statement}
+use Rattle.byte_lines.proofs.put_byte_in.Tie as tie
 
 put-decimal-requires : tie.Need-put-decimal-requires
 put-decimal-requires c κs =

@@ -1,4 +1,4 @@
--- `byte_list::put_between` meets its contract: nothing before the first byte, and else the separator and the start of a line.
+-- `byte_lines::put_between` meets its contract: nothing before the first byte, and else the separator and the start of a line.
 -- Assumes nothing.
 use Prim.Native.Nat.{_+_, _≤_}
 use native.Mathlib.Omega.{arith}
@@ -7,9 +7,9 @@ use borrow.Author.Tests.{eq-eqb, ne-eqb}
 use borrow.Author.Needs.{needs}
 use Rattle.output.specs.Pieces.{leading, every}
 use Rattle.output.proofs.Writes.{writes-nothing, writes-then}
-use Rattle.byte_list.specs.Start.{lineStart}
-use Rattle.byte_list.proofs.put_between.Statement.{statement}
-use Rattle.byte_list.proofs.put_between.Tie as tie
+use Rattle.byte_lines.specs.Start.{lineStart}
+use Rattle.byte_lines.proofs.put_between.Statement.{statement}
+use Rattle.byte_lines.proofs.put_between.Tie as tie
 
 returns : tie.Need-returns
 unfolding leading

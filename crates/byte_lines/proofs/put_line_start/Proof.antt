@@ -1,11 +1,11 @@
--- `byte_list::put_line_start` meets its contract: nothing where sixteen does not divide, and else the start.
+-- `byte_lines::put_line_start` meets its contract: nothing where sixteen does not divide, and else the start.
 -- Assumes nothing.
 use borrow.Author.Tests.{eq-eqb, ne-eqb}
 use borrow.Author.Needs.{needs}
 use Rattle.output.specs.Pieces.{every}
 use Rattle.output.proofs.Writes.{writes-nothing}
-use Rattle.byte_list.proofs.put_line_start.Statement.{statement}
-use Rattle.byte_list.proofs.put_line_start.Tie as tie
+use Rattle.byte_lines.proofs.put_line_start.Statement.{statement}
+use Rattle.byte_lines.proofs.put_line_start.Tie as tie
 
 returns : tie.Need-returns
 unfolding every

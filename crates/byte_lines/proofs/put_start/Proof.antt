@@ -1,4 +1,4 @@
--- `byte_list::put_start` meets its contract: one case for each kind of line.
+-- `byte_lines::put_start` meets its contract: one case for each kind of line.
 -- Assumes nothing.
 use mathlib.Core.Path.{ap}
 use Prim.Native.Nat.{_+_, _≤_}
@@ -7,10 +7,10 @@ use lib.ListN.{length, length-append}
 use borrow.Author.Needs.{needs}
 use Rattle.output.specs.Ascii.{ascii}
 use Rattle.output.proofs.Writes.{writes-then}
-use Rattle.byte_list.specs.declared.LineStart.{LineStart}
-use Rattle.byte_list.specs.Start.{addressComment, lineStart}
-use Rattle.byte_list.proofs.put_start.Statement.{statement}
-use Rattle.byte_list.proofs.put_start.Tie as tie
+use Rattle.byte_lines.specs.declared.LineStart.{LineStart}
+use Rattle.byte_lines.specs.Start.{addressComment, lineStart}
+use Rattle.byte_lines.proofs.put_start.Statement.{statement}
+use Rattle.byte_lines.proofs.put_start.Tie as tie
 
 enum-told : tie.Need-enum-told
 enum-told c = search needs

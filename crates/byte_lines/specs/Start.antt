@@ -6,8 +6,8 @@ use Prim.Native.Char.{code}
 use Rattle.output.specs.Ascii.{ascii}
 use Rattle.numbers.specs.declared.Letters.the-variants.{Lower}
 use Rattle.numbers.specs.Digits.{numberText, padded}
-use Rattle.byte_list.specs.declared.LineStart.{LineStart}
-use Rattle.byte_list.specs.declared.LineStart.the-variants.{Newline, Comment}
+use Rattle.byte_lines.specs.declared.LineStart.{LineStart}
+use Rattle.byte_lines.specs.declared.LineStart.the-variants.{Newline, Comment}
 
 -- The comment with the address k, filled with zeros to a width.
 unfoldable pub addressComment : ℕ → ℕ → List ℕ

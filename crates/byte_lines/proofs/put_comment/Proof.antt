@@ -1,4 +1,4 @@
--- `byte_list::put_comment` meets its contract: one writer after another.
+-- `byte_lines::put_comment` meets its contract: one writer after another.
 -- Assumes nothing.
 use Prim.Native.Nat.{_+_, _≤_, max}
 use native.Mathlib.Omega.{arith}
@@ -8,10 +8,10 @@ use Rattle.output.proofs.Writes.{writes-then}
 use Rattle.numbers.specs.declared.Letters.the-variants.{Lower}
 use Rattle.numbers.specs.Digits.{digitCount, numberText}
 use Rattle.numbers.proofs.Digits.{number-length, padded-length}
-use Rattle.byte_list.specs.Start.{addressComment}
-use Rattle.byte_list.proofs.Lengths.{comment-length}
-use Rattle.byte_list.proofs.put_comment.Statement.{statement}
-use Rattle.byte_list.proofs.put_comment.Tie as tie
+use Rattle.byte_lines.specs.Start.{addressComment}
+use Rattle.byte_lines.proofs.Lengths.{comment-length}
+use Rattle.byte_lines.proofs.put_comment.Statement.{statement}
+use Rattle.byte_lines.proofs.put_comment.Tie as tie
 
 -- there is room for each part
 room : (c : tie.Start) → c .args .at + (max (c .args .width) (digitCount 16 (c .args .k)) + 10) ≤ length (c .args .out .now)
