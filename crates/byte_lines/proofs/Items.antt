@@ -2,13 +2,13 @@
 -- Assumes nothing.
 use mathlib.Core.Path.{_≡_, ap, _∙_}
 use mathlib.Core.List.{List, [], _++_, append-nil}
-use Prim.Native.Nat.{ℕ, _+_, _-_, _%_, _≤_, _<_}
+use Prim.Native.Nat.{ℕ, _+_, _%_, _≤_, _<_}
 use native.Mathlib.Omega.{arith}
-use lib.ListN.{length, length-append}
+use lib.ListN.{length}
 use borrow.Author.Tests.{ne-eqb}
 use Rattle.bitvec.specs.Bits.{byteAt}
 use Rattle.output.specs.Pieces.{pieces, leading, joined, every}
-use Rattle.output.proofs.Pieces.{pieces-none, pieces-next, pieces-append, pieces-equal, pieces-room}
+use Rattle.output.proofs.Pieces.{pieces-none, pieces-next, pieces-append, pieces-equal, pieces-room, pieces-most}
 use Rattle.byte_list.specs.Bytes.{byteIn}
 use Rattle.byte_lines.specs.Items.{itemsText}
 
@@ -27,12 +27,6 @@ pub items-room : (radix : ℕ) (s bytes : List ℕ) (len first j n : ℕ) → j 
     → length (itemsText radix s bytes len first j) + length (s ++ byteIn radix (byteAt bytes len (first + j))) ≤ length (itemsText radix s bytes len first n)
 unfolding itemsText
 items-room radix s bytes len first j n h = pieces-room _ j n h
-
--- Fewer pieces are no longer.
-pieces-most : (f : ℕ → List ℕ) (a n : ℕ) → a ≤ n → length (pieces f a) ≤ length (pieces f n)
-pieces-most f a n h =
-    let all : a + (n - a) ≡ n = omega arith in
-    omega (arith, ap (λ (k : ℕ). length (pieces f k)) all, ap length (pieces-append f a (n - a)), length-append (pieces f a) (pieces (λ k. f (a + k)) (n - a)))
 
 -- What stands before byte k, and byte k.
 abbrev pub gap : List ℕ → (ℕ → List ℕ) → ℕ → List ℕ

@@ -5,7 +5,6 @@ use mathlib.Core.List.{List, [], _++_, append-assoc}
 use Prim.Native.Nat.{ℕ, _+_, _-_, _*_, _/_, _%_, _<_, _≤_, min}
 use native.Mathlib.Omega.{arith}
 use native.Mathlib.Nat.{mul-assoc, mul-comm, add-mul, suc-mul, le-of-mul-le-mul-right}
-use lib.ListN.{length, length-append}
 use borrow.Author.Tests.{eq-eqb, ne-eqb}
 use Rattle.bitvec.specs.Size.{ceilDiv}
 use Rattle.bitvec.proofs.Size.{ceil-covers}
@@ -83,12 +82,6 @@ pub line-next : (bytes : List ℕ) (len m n q : ℕ) → 0 < m → 0 < n → m *
     → pieces (chunkAt bytes len (m * 8)) (q * n + n) ≡ pieces (chunkAt bytes len (m * 8)) (q * n) ++ (rowsText Hex bytes len (q * 16) m (ascii " ") n ++ ascii "\n")
 line-next bytes len m n q some p e h =
     pieces-append (chunkAt bytes len (m * 8)) (q * n) n ∙ rw (line-rows bytes len m n q some e h p)
-
--- Some of the pieces are not longer than all.
-pub pieces-most : (f : ℕ → List ℕ) (a n : ℕ) → a ≤ n → length (pieces f a) ≤ length (pieces f n)
-pieces-most f a n h =
-    let all : a + (n - a) ≡ n = omega arith in
-    omega (arith, ap (λ (k : ℕ). length (pieces f k)) all, ap length (pieces-append f a (n - a)), length-append (pieces f a) (pieces (λ k. f (a + k)) (n - a)))
 
 -- The file: its first line, the first n chunks and the others.
 pub text-parts : (bytes : List ℕ) (len width n chunks : ℕ) → chunks ≡ ceilDiv len width → n ≤ chunks

@@ -3,7 +3,7 @@
 use mathlib.Core.Path.{_≡_, refl, sym, ap, _∙_}
 use mathlib.Core.List.{List, [], _∷_, _++_, append-nil, append-assoc}
 use mathlib.Core.Logic.{_↔_}
-use Prim.Native.Nat.{ℕ, zero, suc, _+_, _*_, _≤_, _<_}
+use Prim.Native.Nat.{ℕ, zero, suc, _+_, _-_, _*_, _≤_, _<_}
 use native.Mathlib.Omega.{arith}
 use native.Mathlib.Numerals.{add-one}
 use native.Mathlib.Nat.{add-zero, add-suc, suc-mul, zero-mul, mul-le-mul-right}
@@ -42,6 +42,12 @@ pieces-room f i zero h = absurd (omega arith)
 pieces-room f i (suc n) h =
     rw (length-append (pieces f n) (f n))
     (by-order i n (λ l. omega (arith, pieces-room f i n l)) (λ l. let e : i ≡ n = omega arith in rw e (omega arith)))
+
+-- Fewer pieces are no longer.
+pub pieces-most : (f : ℕ → List ℕ) (a n : ℕ) → a ≤ n → length (pieces f a) ≤ length (pieces f n)
+pieces-most f a n h =
+    let all : a + (n - a) ≡ n = omega arith in
+    omega (arith, ap (λ (k : ℕ). length (pieces f k)) all, ap length (pieces-append f a (n - a)), length-append (pieces f a) (pieces (λ k. f (a + k)) (n - a)))
 
 -- Equal pieces make equal texts.
 pub pieces-equal : (f g : ℕ → List ℕ) (n : ℕ) → ((i : ℕ) → i < n → f i ≡ g i) → pieces f n ≡ pieces g n

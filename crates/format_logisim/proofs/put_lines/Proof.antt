@@ -10,14 +10,14 @@ use borrow.Author.Needs.{needs}
 use Rattle.output.specs.Ascii.{ascii}
 use Rattle.output.specs.Pieces.{pieces}
 use Rattle.output.specs.Writes.{Writes}
-use Rattle.output.proofs.Pieces.{pieces-none}
+use Rattle.output.proofs.Pieces.{pieces-none, pieces-most}
 use Rattle.output.proofs.Writes.{writes-nothing, writes-then, writes-length}
 use Rattle.rows.specs.declared.ByteDigits.the-variants.{Hex}
 use Rattle.rows.specs.Rows.{rowsText}
 use Rattle.output.proofs.Order.{stride}
 use Rattle.rows.proofs.Rows.{rows-length}
 use Rattle.format_logisim.specs.Logisim.{chunkAt}
-use Rattle.format_logisim.proofs.Whole.{line-next, pieces-most}
+use Rattle.format_logisim.proofs.Whole.{line-next}
 use Rattle.format_logisim.proofs.put_lines.Statement.{statement}
 use Rattle.format_logisim.proofs.put_lines.Tie as tie
 
