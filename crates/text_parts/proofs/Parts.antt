@@ -4,7 +4,7 @@ use mathlib.Core.Path.{_≡_, refl, sym, ap, _∙_}
 use mathlib.Core.List.{List, [], _∷_, _++_, append-nil, append-assoc}
 use Prim.Native.Nat.{ℕ, zero, suc, _+_, _-_, _*_, _≤_, _<_}
 use native.Mathlib.Omega.{arith}
-use native.Mathlib.Nat.{zero-add, suc-mul, zero-mul}
+use native.Mathlib.Nat.{zero-add, suc-mul, zero-mul, mul-one, mul-le-mul-left}
 use lib.ListN.{length, getD, take, drop, length-append, length-drop, drop-of-length-le, take-append-drop}
 use lib.Seq.{sets, sets-eq, length-take-le, take-at, drop-at, drop-cons, take-append-add, drop-drop}
 use Rattle.output.proofs.Order.{stride}
@@ -12,7 +12,7 @@ use Rattle.output.specs.Pieces.{pieces}
 use Rattle.output.specs.Writes.{Writes}
 use Rattle.output.proofs.Writes.{writes-over}
 use Rattle.output.proofs.Pieces.{pieces-none, pieces-next, pieces-length, pieces-equal, pieces-append}
-use Rattle.text_parts.specs.Parts.{partsText}
+use Rattle.text_parts.specs.Parts.{partsText, headedText}
 
 -- A part within a text has its size.
 pub part-length : (s : List ℕ) (from size : ℕ) → from + size ≤ length s → length (take size (drop from s)) ≡ size
@@ -76,6 +76,30 @@ unfolding partsText
 parts-length s size tail n l =
     pieces-length _ (size + length tail) n
     (λ k h. length-append (take size (drop (k * size) s)) tail ∙ rw (part-length s (k * size) size (omega (arith, stride k n size h))))
+
+pub headed-none : (s : List ℕ) (size i : ℕ) (head : List ℕ) → headedText s size i head 0 ≡ []
+unfolding headedText
+headed-none s size i head = pieces-none _
+
+-- One part more with a text before it.
+pub headed-next : (s : List ℕ) (size i : ℕ) (head : List ℕ) (n : ℕ)
+    → headedText s size i head (n + 1) ≡ headedText s size i head n ++ (head ++ take size (drop ((i + n) * size) s))
+unfolding headedText
+headed-next s size i head n = pieces-next _ n
+
+-- Part k of n from part i on is in a text that has all of them.
+pub part-inside : (s : List ℕ) (size i n k : ℕ) → (i + n) * size ≤ length s → k < n → (i + k) * size + size ≤ length s
+part-inside s size i n k l h = omega (arith, stride (i + k) (i + n) size (omega arith))
+
+-- Its number is within a text too, where a part has characters.
+pub number-inside : (s : List ℕ) (size i n k : ℕ) → 0 < size → (i + n) * size ≤ length s → k < n → i + k < length s
+number-inside s size i n k p l h = omega (arith, rw mul-one at (mul-le-mul-left {m = 1} {n = size} (i + n) (omega arith)))
+
+pub headed-length : (s : List ℕ) (size i : ℕ) (head : List ℕ) (n : ℕ) → (i + n) * size ≤ length s → length (headedText s size i head n) ≡ n * (length head + size)
+unfolding headedText
+headed-length s size i head n l =
+    pieces-length _ (length head + size) n
+    (λ k h. length-append head (take size (drop ((i + k) * size) s)) ∙ rw (part-length s ((i + k) * size) size (part-inside s size i n k l h)))
 
 -- Piece k of a text that is made of pieces of one length, whatever stands behind them.
 pub pieces-cut : (f : ℕ → List ℕ) (m n : ℕ) (rest : List ℕ) → ((i : ℕ) → i < n → length (f i) ≡ m) → (k : ℕ) → k < n → take m (drop (k * m) (pieces f n ++ rest)) ≡ f k

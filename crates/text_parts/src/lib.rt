@@ -1,11 +1,11 @@
-// A text cut into parts of one size, with a character behind each: digits that were made at once and
+// A text cut into parts of one size, with a character behind or a text before each: digits that were made at once and
 // are written in lines, chunks or groups.
 ghost use mathlib.Core.Path.{_≡_};
 ghost use mathlib.Core.List.{[], _∷_, _++_};
 ghost use Prim.Native.Nat.{_+_, _*_, _≤_, _<_};
 ghost use lib.ListN.{length, take, drop};
 ghost use Rattle.output.specs.Writes.{Writes};
-ghost use Rattle.text_parts.specs.Parts.{partsText};
+ghost use Rattle.text_parts.specs.Parts.{partsText, headedText};
 
 // Stores the two characters of `s` from `from` on. They are copied into an array first, since a load
 // and a store of all at once can only be made where nothing else is stored between.
@@ -89,7 +89,7 @@ fn put_odd(out: &mut [u8], at: usize, s: &[u8], from: usize, size: usize) -> usi
 }
 
 // Stores the `size` characters of `s` from `from` on.
-fn put_part(out: &mut [u8], at: usize, s: &[u8], from: usize, size: usize) -> usize
+pub fn put_part(out: &mut [u8], at: usize, s: &[u8], from: usize, size: usize) -> usize
     requires { ⌜ (from + size ≤ length (now s)) × (at + size ≤ length (now out)) ⌝ }
     ensures { λ r. ⌜ Writes (take size (drop from (now (s .entry)))) (now (out .entry)) at (now (out .exit)) r ⌝ }
 {
@@ -114,4 +114,91 @@ pub fn put_parts(out: &mut [u8], at: usize, s: &[u8], size: usize, tail: u8, cou
         next = output::put(out, next, tail);
     }
     next
+}
+
+// Stores `count` parts of `s` from part `first` on, and a character before each.
+fn put_after_one(
+    out: &mut [u8],
+    at: usize,
+    s: &[u8],
+    size: usize,
+    first: usize,
+    head: u8,
+    count: usize,
+) -> usize
+    requires { ⌜ (0 < size) × ((first + count) * size ≤ length (now s)) × (at + count * (1 + size) ≤ length (now out)) ⌝ }
+    ensures { λ r. ⌜ Writes (headedText (now (s .entry)) size first (head ∷ []) count) (now (out .entry)) at (now (out .exit)) r ⌝ }
+{
+    let mut next = at;
+    for k in 0..count {
+        next = output::put(out, next, head);
+        next = put_part(out, next, s, (first + k) * size, size);
+    }
+    next
+}
+
+// Stores `count` parts of `s` from part `first` on, and two characters before each.
+fn put_after_two(
+    out: &mut [u8],
+    at: usize,
+    s: &[u8],
+    size: usize,
+    first: usize,
+    head: u8,
+    head2: u8,
+    count: usize,
+) -> usize
+    requires { ⌜ (0 < size) × ((first + count) * size ≤ length (now s)) × (at + count * (2 + size) ≤ length (now out)) ⌝ }
+    ensures { λ r. ⌜ Writes (headedText (now (s .entry)) size first (head ∷ head2 ∷ []) count) (now (out .entry)) at (now (out .exit)) r ⌝ }
+{
+    let mut next = at;
+    for k in 0..count {
+        next = output::put(out, next, head);
+        next = output::put(out, next, head2);
+        next = put_part(out, next, s, (first + k) * size, size);
+    }
+    next
+}
+
+// Stores `count` parts of `s` from part `first` on, and `head` before each.
+fn put_after_any(
+    out: &mut [u8],
+    at: usize,
+    s: &[u8],
+    size: usize,
+    first: usize,
+    head: &[u8],
+    count: usize,
+) -> usize
+    requires { ⌜ (0 < size) × ((first + count) * size ≤ length (now s)) × (at + count * (length (now head) + size) ≤ length (now out)) ⌝ }
+    ensures { λ r. ⌜ Writes (headedText (now (s .entry)) size first (now (head .entry)) count) (now (out .entry)) at (now (out .exit)) r ⌝ }
+{
+    let mut next = at;
+    for k in 0..count {
+        next = output::put_text(out, next, head);
+        next = put_part(out, next, s, (first + k) * size, size);
+    }
+    next
+}
+
+// The same: texts of one or two characters have loops of their own.
+pub fn put_headed(
+    out: &mut [u8],
+    at: usize,
+    s: &[u8],
+    size: usize,
+    first: usize,
+    head: &[u8],
+    count: usize,
+) -> usize
+    requires { ⌜ (0 < size) × ((first + count) * size ≤ length (now s)) × (at + count * (length (now head) + size) ≤ length (now out)) ⌝ }
+    ensures { λ r. ⌜ Writes (headedText (now (s .entry)) size first (now (head .entry)) count) (now (out .entry)) at (now (out .exit)) r ⌝ }
+{
+    if head.len() == 1 {
+        return put_after_one(out, at, s, size, first, head[0], count);
+    }
+    if head.len() == 2 {
+        return put_after_two(out, at, s, size, first, head[0], head[1], count);
+    }
+    put_after_any(out, at, s, size, first, head, count)
 }
