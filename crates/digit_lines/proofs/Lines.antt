@@ -36,7 +36,7 @@ lines-length bytes len w i size tail n =
     (λ k h. length-append (run bytes len w (i + k * (size * w)) size) (tail ∷ []) ∙ rw (run-length bytes len w (i + k * (size * w)) size))
 
 -- The digits of n lines are one run.
-run-lines : (bytes : List ℕ) (len w i size n : ℕ) → run bytes len w i (n * size) ≡ pieces (λ k. run bytes len w (i + k * (size * w)) size) n
+pub run-lines : (bytes : List ℕ) (len w i size n : ℕ) → run bytes len w i (n * size) ≡ pieces (λ k. run bytes len w (i + k * (size * w)) size) n
 unfolding run
 run-lines bytes len w i size n =
     pieces-nested _ size n

@@ -36,7 +36,7 @@ fn put_block(
 
 // How many lines of `size` digits a block has: eight or a multiple where they have places, so that the
 // next block starts with a byte if this one does.
-fn block_lines(size: usize) -> usize
+pub fn block_lines(size: usize) -> usize
     requires { ⌜ (0 < size) × (size ≤ 1024) ⌝ }
     ensures { λ r. ⌜ (0 < r) × (r * size ≤ 1024) ⌝ }
 {
