@@ -2,14 +2,14 @@
 -- Assumes nothing.
 use mathlib.Core.Path.{_≡_, refl, sym, ap, _∙_}
 use mathlib.Core.Bool.{Bool, true, false, cond, not, _&&_}
-use mathlib.Core.List.{List, [], _++_, append-assoc}
+use mathlib.Core.List.{List, [], _∷_, _++_, append-assoc}
 use Prim.Native.Nat.{ℕ, suc, _+_, _-_, _*_, _/_, _%_, _<_, _≤_}
 use native.Mathlib.Omega.{arith}
-use native.Mathlib.Nat.{mul-assoc, add-mul, mul-one, mul-le-mul-left, suc-mul, mul-mod-left, add-div-right}
+use native.Mathlib.Nat.{mul-assoc, add-mul, mul-one, mul-le-mul-left, suc-mul, mul-mod-left, add-div-right, div-add-mod'}
 use lib.Arith.{digits-mod}
 use lib.Dec.{eqb}
 use lib.ListN.{length, length-append}
-use borrow.Author.Tests.{eq-eqb, ne-eqb}
+use borrow.Author.Tests.{eq-eqb, ne-eqb, eqb-true}
 use Rattle.output.specs.Pieces.{pieces, leading, joined}
 use Rattle.output.proofs.Joined.{joined-alike}
 use Rattle.output.proofs.Pieces.{pieces-equal}
@@ -21,7 +21,8 @@ use Rattle.bases.specs.Base.{baseBits}
 use Rattle.digits.specs.Run.{run}
 use Rattle.digits.proofs.Run.{bytes-run}
 use Rattle.format_list.specs.declared.FormatListOptions.{FormatListOptions}
-use Rattle.format_list.specs.List.{groupBits, groupText, betweenGroups, alike}
+use Rattle.format_list.specs.List.{groupBits, groupText, betweenGroups}
+use Rattle.format_list.specs.Bytes.{wholeBytes, groupBytes, groupKind, alike}
 
 -- A group of some bytes has eight bits for each.
 pub group-bits : (o : FormatListOptions) (kind : ByteDigits) (wide : ℕ) → baseBits (o .base) ≡ digitBits kind → o .«digits_per_group» ≡ wide * perByte kind
@@ -31,6 +32,31 @@ group-bits o kind wide b d = rw (b, d) (eight kind)
     eight : (kind : ByteDigits) → wide * perByte kind * digitBits kind ≡ wide * 8
     eight Binary = omega arith
     eight Hex = omega arith
+
+-- Digits that are whole bytes are those of their bytes.
+whole-digits : (digits n : ℕ) → 0 < wholeBytes digits n → digits ≡ wholeBytes digits n * n
+unfolding wholeBytes
+whole-digits digits n p = go (eqb (digits % n) 0) refl p
+  where
+    go : (t : Bool) → eqb (digits % n) 0 ≡ t → 0 < cond t (digits / n) 0 → digits ≡ cond t (digits / n) 0 * n
+    go true e h = omega (arith, div-add-mod' digits n, eqb-true (digits % n) 0 e)
+    go false e h = absurd (omega arith)
+
+-- So are those of a group, where it has bytes.
+pub bytes-digits : (w digits : ℕ) → 0 < groupBytes w digits → (w ≡ digitBits (groupKind w)) × (digits ≡ groupBytes w digits * perByte (groupKind w))
+unfolding groupBytes groupKind
+bytes-digits w digits p = go (eqb w 4) (eqb w 1) refl refl p
+  where
+    go : (t u : Bool) → eqb w 4 ≡ t → eqb w 1 ≡ u → 0 < cond t (wholeBytes digits 2) (cond u (wholeBytes digits 8) 0)
+        → (w ≡ digitBits (cond t Hex Binary)) × (digits ≡ cond t (wholeBytes digits 2) (cond u (wholeBytes digits 8) 0) * perByte (cond t Hex Binary))
+    go true u e f h = (eqb-true w 4 e, whole-digits digits 2 h)
+    go false true e f h = (eqb-true w 1 f, whole-digits digits 8 h)
+    go false false e f h = absurd (omega arith)
+
+-- A group has no more bytes than digits.
+pub bytes-few : (kind : ByteDigits) (wide : ℕ) → wide ≤ wide * perByte kind
+bytes-few Binary wide = omega arith
+bytes-few Hex wide = omega arith
 
 -- It is whole bytes in digits.
 group-bytes : (o : FormatListOptions) (kind : ByteDigits) (wide : ℕ) → baseBits (o .base) ≡ digitBits kind → o .«digits_per_group» ≡ wide * perByte kind
@@ -72,6 +98,11 @@ place-small k wide bits p h = omega (arith, rw mul-one at (mul-le-mul-left k (on
   where
     one : 0 < wide → 1 ≤ wide * 8
     one q = omega arith
+
+-- A segment has groups where there are any.
+pub segment-some : {size count n : ℕ} (s : List ℕ) → (0 < length s → 0 < n) → 0 < count → size ≡ cond (eqb (length s) 0) count n → 0 < size
+segment-some [] h p e = omega (arith, e)
+segment-some (x ∷ s) h p e = omega (arith, simp (ne-eqb (length (x ∷ s)) 0 (λ z. absurd (omega arith))) at e, h (omega arith))
 
 -- Behind q whole segments, the groups of the next have the first string before them, but for its first group.
 pub first-between : (o : FormatListOptions) (between between2 : List ℕ) (size count q j : ℕ) → size ≡ cond (eqb (length between2) 0) count (o .«groups_per_group2»)

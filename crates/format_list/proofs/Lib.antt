@@ -1,3 +1,4 @@
 mod Lengths
 mod Ranges
 mod Alike
+mod Strings

@@ -1,11 +1,11 @@
 -- The digits of an image in groups with strings between them (document 01, module 4; the Rust's `format_list`).
 use mathlib.Core.Bool.{Bool, cond, not, _||_, _&&_}
 use mathlib.Core.List.{List, _++_}
-use Prim.Native.Nat.{ℕ, _+_, _*_, _%_}
+use Prim.Native.Nat.{ℕ, _*_, _%_}
 use lib.Dec.{eqb, ltb}
 use lib.ListN.{length}
 use Rattle.bitvec.specs.Size.{badSize, ceilDiv}
-use Rattle.output.specs.Pieces.{pieces, joined}
+use Rattle.output.specs.Pieces.{joined}
 use Rattle.outcome.specs.Outcome.{Outcome, refused, outside, tooLong, inRoom}
 use Rattle.bases.specs.Base.{baseBits}
 use Rattle.digits.specs.Run.{run}
@@ -22,10 +22,6 @@ groupText o bytes len k = run bytes len (baseBits (o .base)) (k * groupBits o) (
 -- What stands before group k: the second string, if it is not empty, where groups_per_group2 divides k, and else the first.
 unfoldable pub betweenGroups : FormatListOptions → List ℕ → List ℕ → ℕ → List ℕ
 betweenGroups o between between2 k = cond (not (eqb (length between2) 0) && eqb (k % o .«groups_per_group2») 0) between2 between
-
--- Groups k to k + n with one string between them.
-unfoldable pub alike : FormatListOptions → List ℕ → ℕ → List ℕ → ℕ → ℕ → List ℕ
-alike o bytes len between k n = pieces (λ j. groupText o bytes len (k + j) ++ between) n ++ groupText o bytes len (k + n)
 
 -- The groups with the strings between them, in as many groups as hold the image, between the strings before and after.
 unfoldable pub listText : FormatListOptions → List ℕ → List ℕ → List ℕ → List ℕ → List ℕ → ℕ → List ℕ

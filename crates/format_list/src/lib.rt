@@ -12,7 +12,8 @@ ghost use Rattle.output.specs.Writes.{Writes};
 ghost use Rattle.outcome.specs.Outcome.{tooLong, Exports};
 ghost use Rattle.rows.specs.Rows.{perByte, digitBits};
 ghost use Rattle.bases.specs.Base.{baseBits};
-ghost use Rattle.format_list.specs.List.{groupBits, groupText, betweenGroups, alike, listText, badList, listOutcome};
+ghost use Rattle.format_list.specs.List.{groupBits, groupText, betweenGroups, listText, badList, listOutcome};
+ghost use Rattle.format_list.specs.Bytes.{alike, wholeBytes, groupBytes, groupKind};
 use bitvec::BitOffset;
 use outcome::Export;
 use rows::ByteDigits;
@@ -94,58 +95,6 @@ fn strings_length(
         between2.len(),
         between.len(),
     )
-}
-
-// Stores the string before group `k`.
-fn put_string(
-    out: &mut [u8],
-    at: usize,
-    options: FormatListOptions,
-    between: &[u8],
-    between2: &[u8],
-    k: usize,
-) -> usize
-    requires { ⌜ (0 < length (now between2) → 0 < options .«groups_per_group2») × (at + length (leading (betweenGroups options (now between) (now between2)) k) ≤ length (now out)) ⌝ }
-    ensures { λ r. ⌜ Writes (leading (betweenGroups options (now (between .entry)) (now (between2 .entry))) k) (now (out .entry)) at (now (out .exit)) r ⌝ }
-{
-    if k == 0 {
-        return at;
-    }
-    if between2.len() == 0 {
-        return output::put_all(out, at, between);
-    }
-    if k % options.groups_per_group2 != 0 {
-        return output::put_all(out, at, between);
-    }
-    output::put_all(out, at, between2)
-}
-
-// Stores `count` groups of digits of `width` bits.
-fn put_groups(
-    out: &mut [u8],
-    at: usize,
-    image: &[u8],
-    bits: usize,
-    options: FormatListOptions,
-    between: &[u8],
-    between2: &[u8],
-    width: usize,
-    count: usize,
-) -> usize
-    requires { ⌜ (0 < length (now between2) → 0 < options .«groups_per_group2») × (width ≡ baseBits (options .base)) × (count * groupBits options < 2 ^ 32) × (at + length (joined (betweenGroups options (now between) (now between2)) (groupText options (now image) bits) count) ≤ length (now out)) ⌝ }
-    ensures { λ r. ⌜ Writes (joined (betweenGroups options (now (between .entry)) (now (between2 .entry))) (groupText options (now (image .entry)) bits) count) (now (out .entry)) at (now (out .exit)) r ⌝ }
-{
-    let digits = options.digits_per_group;
-    let mut offset = 0;
-    let mut next = at;
-    let mut k = 0;
-    while k < count {
-        next = put_string(out, next, options, between, between2, k);
-        next = digits::put_run(out, next, image, bits, width, BitOffset(offset), digits);
-        offset += digits * width;
-        k += 1;
-    }
-    next
 }
 
 // How many groups there are from one second string to the next: all, where there is none.
@@ -272,6 +221,41 @@ fn put_byte_groups(
     )
 }
 
+// How many bytes `digits` digits are, where a byte has `per_byte` of them: 0, where they are not whole
+// bytes.
+fn whole_bytes(digits: usize, per_byte: usize) -> usize
+    requires { ⌜ 0 < «per_byte» ⌝ }
+    ensures { λ r. ⌜ r ≡ wholeBytes digits «per_byte» ⌝ }
+{
+    if digits % per_byte != 0 {
+        return 0;
+    }
+    digits / per_byte
+}
+
+// How many bytes a group has that is whole bytes of hexadecimal or binary digits: 0, where it is not.
+fn group_bytes(width: usize, digits: usize) -> usize
+    ensures { λ r. ⌜ r ≡ groupBytes width digits ⌝ }
+{
+    if width == 4 {
+        return whole_bytes(digits, 2);
+    }
+    if width == 1 {
+        return whole_bytes(digits, 8);
+    }
+    0
+}
+
+// The kind of digits that such a group has.
+fn group_kind(width: usize) -> ByteDigits
+    ensures { λ r. ⌜ r ≡ groupKind width ⌝ }
+{
+    if width == 4 {
+        return ByteDigits::Hex;
+    }
+    ByteDigits::Binary
+}
+
 // Stores `count` groups of digits of `width` bits: by bytes, where a group has whole bytes of
 // hexadecimal or binary digits.
 fn put_all_groups(
@@ -290,42 +274,27 @@ fn put_all_groups(
     requires room { ⌜ at + length (joined (betweenGroups options (now between) (now between2)) (groupText options (now image) bits) count) ≤ length (now out) ⌝ }
     ensures { λ r. ⌜ Writes (joined (betweenGroups options (now (between .entry)) (now (between2 .entry))) (groupText options (now (image .entry)) bits) count) (now (out .entry)) at (now (out .exit)) r ⌝ }
 {
-    let digits = options.digits_per_group;
-    if 0 < count {
-        if width == 4 {
-            if digits % 2 == 0 {
-                return put_byte_groups(
-                    out,
-                    at,
-                    image,
-                    bits,
-                    options,
-                    between,
-                    between2,
-                    ByteDigits::Hex,
-                    digits / 2,
-                    count,
-                );
-            }
-        }
-        if width == 1 {
-            if digits % 8 == 0 {
-                return put_byte_groups(
-                    out,
-                    at,
-                    image,
-                    bits,
-                    options,
-                    between,
-                    between2,
-                    ByteDigits::Binary,
-                    digits / 8,
-                    count,
-                );
-            }
-        }
+    if count == 0 {
+        return at;
     }
-    put_groups(
+    let digits = options.digits_per_group;
+    let wide = group_bytes(width, digits);
+    if wide == 0 {
+        let every = segment(options, between2, count);
+        return digit_groups::put_groups(
+            out,
+            at,
+            image,
+            bits,
+            width,
+            digits,
+            every,
+            between,
+            between2,
+            count,
+        );
+    }
+    put_byte_groups(
         out,
         at,
         image,
@@ -333,7 +302,8 @@ fn put_all_groups(
         options,
         between,
         between2,
-        width,
+        group_kind(width),
+        wide,
         count,
     )
 }

@@ -10,7 +10,8 @@ use Rattle.output.proofs.Writes.{writes-then, writes-length}
 use Rattle.rows.specs.Rows.{perByte, rowsText}
 use Rattle.rows.proofs.Rows.{rows-length}
 use Rattle.bases.proofs.Base.{base-small}
-use Rattle.format_list.specs.List.{groupText, alike}
+use Rattle.format_list.specs.List.{groupText}
+use Rattle.format_list.specs.Bytes.{alike}
 use Rattle.format_list.proofs.Lengths.{group-length}
 use Rattle.format_list.proofs.Alike.{group-bits, alike-rows, bytes-place, place-small}
 use Rattle.format_list.proofs.put_alike.Statement.{statement}

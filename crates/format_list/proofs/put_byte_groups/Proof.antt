@@ -1,21 +1,19 @@
 -- `format_list::put_byte_groups` meets its contract: after each turn the groups before group k are written, and the string before it.
 -- Assumes nothing.
 use mathlib.Core.Path.{_≡_, refl, ap}
-use mathlib.Core.Bool.{cond}
-use mathlib.Core.List.{List, [], _∷_, _++_}
-use Prim.Native.Nat.{ℕ, _+_, _-_, _*_, _/_, _≤_, _<_}
+use mathlib.Core.List.{_++_}
+use Prim.Native.Nat.{_+_, _-_, _*_, _/_, _≤_, _<_}
 use native.Mathlib.Nat.{zero-div, zero-mul, mul-le-mul-right}
 use native.Mathlib.Omega.{arith}
-use lib.Dec.{eqb}
 use lib.ListN.{length, length-append}
 use borrow.Author.Needs.{needs}
-use borrow.Author.Tests.{ne-eqb}
 use Rattle.output.specs.Pieces.{leading, joined}
 use Rattle.output.specs.Writes.{Writes}
 use Rattle.output.proofs.Joined.{joined-none, joined-room}
 use Rattle.output.proofs.Writes.{writes-nothing, writes-then, writes-length, room-then}
-use Rattle.format_list.specs.List.{groupText, betweenGroups, alike}
-use Rattle.format_list.proofs.Alike.{segment-text, closed-text, segment-next}
+use Rattle.format_list.specs.List.{groupText, betweenGroups}
+use Rattle.format_list.specs.Bytes.{alike}
+use Rattle.format_list.proofs.Alike.{segment-some, segment-text, closed-text, segment-next}
 use Rattle.format_list.proofs.put_byte_groups.Statement.{statement}
 use Rattle.format_list.proofs.put_byte_groups.Tie as tie
 
@@ -35,11 +33,7 @@ some : (c : tie.After-segment Inv-loop μ-loop) → 0 < c .segment .result
 some c =
     let start = c .before .before .before .before .before in
     let a = start .args in
-    go (a .between2 .now) (start .pre .0 .2) (start .pre .1 .0 .0) (c .segment .ensures)
-  where
-    go : {size count n : ℕ} (s : List ℕ) → (0 < length s → 0 < n) → 0 < count → size ≡ cond (eqb (length s) 0) count n → 0 < size
-    go [] h p e = omega (arith, e)
-    go (x ∷ s) h p e = omega (arith, simp (ne-eqb (length (x ∷ s)) 0 (λ z. absurd (omega arith))) at e, h (omega arith))
+    segment-some (a .between2 .now) (start .pre .0 .2) (start .pre .1 .0 .0) (c .segment .ensures)
 
 segment-requires : tie.Need-segment-requires Inv-loop μ-loop
 segment-requires c κs = search needs

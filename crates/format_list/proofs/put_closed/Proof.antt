@@ -10,7 +10,7 @@ use borrow.Author.Needs.{needs}
 use Rattle.output.proofs.Writes.{writes-then, writes-over, writes-length, room-then}
 use Rattle.rows.specs.Rows.{rowsText}
 use Rattle.rows.proofs.Rows.{rows-length}
-use Rattle.format_list.specs.List.{alike}
+use Rattle.format_list.specs.Bytes.{alike}
 use Rattle.format_list.proofs.Alike.{alike-closed, bytes-place}
 use Rattle.format_list.proofs.put_closed.Statement.{statement}
 use Rattle.format_list.proofs.put_closed.Tie as tie
