@@ -1,11 +1,13 @@
 -- Laws of groups of digits with strings between them.
 -- Assumes nothing.
-use mathlib.Core.Path.{_≡_, ap, _∙_}
+use mathlib.Core.Path.{_≡_, refl, ap, _∙_}
+use mathlib.Core.Bool.{Bool, true, false, cond}
 use mathlib.Core.List.{List, [], _++_, append-assoc}
-use Prim.Native.Nat.{ℕ, _+_, _-_, _*_, _/_, _%_, _≤_, _<_}
+use Prim.Native.Nat.{ℕ, suc, _+_, _-_, _*_, _/_, _%_, _≤_, _<_}
 use native.Mathlib.Omega.{arith}
-use native.Mathlib.Nat.{add-mul, div-add-mod', mul-le-mul-right}
+use native.Mathlib.Nat.{add-mul, suc-mul, div-add-mod', mod-lt, mod-one, mul-mod-left, mul-le-mul-right}
 use lib.Arith.{digits-mod}
+use lib.Dec.{eqb}
 use lib.ListN.{length, take, drop, length-append}
 use lib.Seq.{sets}
 use borrow.Author.Tests.{ne-eqb}
@@ -27,6 +29,12 @@ first-string m between between2 q i p l =
     let place : q + i ≡ q / m * m + (q % m + i) = omega (arith, div-add-mod' q m) in
     let rest : (q + i) % m ≡ q % m + i = rw place (digits-mod (q / m) l) in
     simp (ne-eqb (q + i) 0 (λ z. absurd (omega arith)), rest, ne-eqb (q % m + i) 0 (λ z. absurd (omega arith)))
+
+-- Behind these groups stands the next that m divides.
+pub next-second : (m q n : ℕ) → 0 < m → n ≡ m - 1 - q % m → (q + (1 + n)) % m ≡ 0
+next-second m q n p e =
+    let place : q + (1 + n) ≡ suc (q / m) * m = omega (arith, e, div-add-mod' q m, suc-mul (q / m) m, mod-lt q p) in
+    rw place (mul-mod-left (suc (q / m)) m)
 
 -- More pieces are not shorter.
 pieces-longer : (f : ℕ → List ℕ) (n m : ℕ) → n ≤ m → length (pieces f n) ≤ length (pieces f m)
@@ -117,3 +125,18 @@ pub joined-longer : (m : ℕ) (between between2 bytes : List ℕ) (len w size i 
     → length (joined (stringAt m between between2) (groupAt bytes len w size) i) ≤ length (joined (stringAt m between between2) (groupAt bytes len w size) n)
 unfolding joined
 joined-longer m between between2 bytes len w size i n h = pieces-longer _ i n h
+
+-- Where each number is divided, one string stands before all.
+pub one-string : (m : ℕ) (between between2 : List ℕ) (item : ℕ → List ℕ) (every n : ℕ) → every ≡ 1
+    → joined (stringAt every between between2) item n ≡ joined (stringAt m between2 between2) item n
+unfolding joined leading stringAt
+one-string m between between2 item every n e = pieces-equal _ _ n (λ k h. ap (λ (t : List ℕ). t ++ item k) (same k))
+  where
+    either : (t : Bool) → between2 ≡ cond t between2 between2
+    either true = refl
+    either false = refl
+
+    same : (k : ℕ) → leading (stringAt every between between2) k ≡ leading (stringAt m between2 between2) k
+    same k =
+        let rest : k % every ≡ 0 = rw e (mod-one k) in
+        ap (λ (t : List ℕ). cond (eqb k 0) [] t) (simp rest (either (eqb (k % m) 0)))

@@ -1,7 +1,7 @@
 // Groups of digits with strings between them: the digits of many groups are made at once, and cut into
 // groups.
 ghost use mathlib.Core.Path.{_≡_};
-ghost use Prim.Native.Nat.{_+_, _*_, _≤_, _<_, _^_};
+ghost use Prim.Native.Nat.{_+_, _-_, _*_, _%_, _≤_, _<_, _^_};
 ghost use lib.ListN.{length};
 ghost use Rattle.output.specs.Pieces.{joined, leading};
 ghost use Rattle.output.specs.Writes.{Writes};
@@ -15,7 +15,8 @@ fn no_digits() -> [u8; 1024]
     [0; 1024]
 }
 
-// Stores what stands before group `k`.
+// Stores what stands before group `k`, behind which there are `left` groups before the next one that
+// `every` divides.
 fn put_string(
     out: &mut [u8],
     at: usize,
@@ -23,14 +24,15 @@ fn put_string(
     between: &[u8],
     between2: &[u8],
     k: usize,
+    left: usize,
 ) -> usize
-    requires { ⌜ (0 < every) × (at + length (leading (stringAt every (now between) (now between2)) k) ≤ length (now out)) ⌝ }
+    requires { ⌜ (0 < every) × (left ≡ every - 1 - k % every) × (at + length (leading (stringAt every (now between) (now between2)) k) ≤ length (now out)) ⌝ }
     ensures { λ r. ⌜ Writes (leading (stringAt every (now (between .entry)) (now (between2 .entry))) k) (now (out .entry)) at (now (out .exit)) r ⌝ }
 {
     if k == 0 {
         return at;
     }
-    if k % every != 0 {
+    if left < every - 1 {
         return output::put_text(out, at, between);
     }
     output::put_text(out, at, between2)
@@ -53,14 +55,15 @@ fn put_cut(
     requires room { ⌜ at + length (cutText every (now between) (now between2) (now s) size k count) ≤ length (now out) ⌝ }
     ensures { λ r. ⌜ Writes (cutText every (now (between .entry)) (now (between2 .entry)) (now (s .entry)) size k count) (now (out .entry)) at (now (out .exit)) r ⌝ }
 {
+    let mut left = every - 1 - k % every;
     let mut next = at;
     let mut j = 0;
     while j < count {
-        let group = k + j;
-        next = put_string(out, next, every, between, between2, group);
+        next = put_string(out, next, every, between, between2, k + j, left);
         next = text_parts::put_part(out, next, s, j * size, size);
-        let more = output::smaller(every - 1 - group % every, count - 1 - j);
+        let more = output::smaller(left, count - 1 - j);
         next = text_parts::put_headed(out, next, s, size, j + 1, between, more);
+        left = every - 1;
         j += 1 + more;
     }
     next
@@ -90,9 +93,8 @@ fn put_block(
     put_cut(out, at, &digits, size, every, between, between2, k, count)
 }
 
-// Stores `count` groups of `size` digits of `width` bits each. Before each group but the first stands
-// `between2` where `every` divides its number, and else `between`.
-pub fn put_groups(
+// Stores `count` groups of `size` digits of `width` bits each, block by block.
+fn put_blocks(
     out: &mut [u8],
     at: usize,
     bytes: &[u8],
@@ -129,4 +131,51 @@ pub fn put_groups(
         k += groups;
     }
     next
+}
+
+// Stores `count` groups of `size` digits of `width` bits each. Before each group but the first stands
+// `between2` where `every` divides its number, and else `between`. Where that is each of them, one string
+// stands before all, which are one loop then.
+pub fn put_groups(
+    out: &mut [u8],
+    at: usize,
+    bytes: &[u8],
+    len: usize,
+    width: usize,
+    size: usize,
+    every: usize,
+    between: &[u8],
+    between2: &[u8],
+    count: usize,
+) -> usize
+    requires small { ⌜ (width ≤ 5) × (0 < size) × (size ≤ 1024) × (0 < count → 0 < every) × (count * (size * width) < 2 ^ 64) ⌝ }
+    requires room { ⌜ at + length (joined (stringAt every (now between) (now between2)) (groupAt (now bytes) len width size) count) ≤ length (now out) ⌝ }
+    ensures { λ r. ⌜ Writes (joined (stringAt every (now (between .entry)) (now (between2 .entry))) (groupAt (now (bytes .entry)) len width size) count) (now (out .entry)) at (now (out .exit)) r ⌝ }
+{
+    if every == 1 {
+        return put_blocks(
+            out,
+            at,
+            bytes,
+            len,
+            width,
+            size,
+            count,
+            between2,
+            between2,
+            count,
+        );
+    }
+    put_blocks(
+        out,
+        at,
+        bytes,
+        len,
+        width,
+        size,
+        every,
+        between,
+        between2,
+        count,
+    )
 }

@@ -1,9 +1,9 @@
--- `digit_groups::put_cut` meets its contract: after each turn the groups before group k + j are written.
+-- `digit_groups::put_cut` meets its contract: after each turn the groups before group k + j are written, and how many are left behind it before a second string is known.
 -- Assumes nothing.
 use mathlib.Core.Path.{_≡_, refl, ap}
 use Prim.Native.Nat.{ℕ, _+_, _-_, _*_, _%_, _≤_, _<_}
 use native.Mathlib.Omega.{arith}
-use native.Mathlib.Nat.{mod-lt, mul-le-mul-right}
+use native.Mathlib.Nat.{add-zero, mod-lt, mul-le-mul-right}
 use lib.ListN.{length}
 use borrow.Author.Needs.{needs}
 use Rattle.output.specs.Pieces.{leading}
@@ -12,16 +12,19 @@ use Rattle.output.proofs.Order.{stride}
 use Rattle.output.proofs.Writes.{writes-nothing, writes-then, writes-length}
 use Rattle.text_parts.proofs.Parts.{part-length}
 use Rattle.digit_groups.specs.Groups.{stringAt, cutText}
-use Rattle.digit_groups.proofs.Groups.{cut-none, cut-more, cut-room}
+use Rattle.digit_groups.proofs.Groups.{next-second, cut-none, cut-more, cut-room}
 use Rattle.digit_groups.proofs.put_cut.Statement.{statement}
 use Rattle.digit_groups.proofs.put_cut.Tie as tie
 
 abbrev Inv-loop : tie.InvT-loop
-Inv-loop out₀ at s size every between between2 k count next₀ j₀ out next j =
-    (j ≤ count) × Writes (cutText every between between2 s size k j) out₀ at out next × (length out ≡ length out₀)
+Inv-loop out₀ at s size every between between2 k count left₀ next₀ j₀ out left next j =
+    (j ≤ count)
+    × Writes (cutText every between between2 s size k j) out₀ at out next
+    × (length out ≡ length out₀)
+    × (j < count → left ≡ every - 1 - (k + j) % every)
 
 abbrev μ-loop : tie.MeasureT-loop
-μ-loop out₀ at s size every between between2 k count next₀ j₀ out next j = count - j
+μ-loop out₀ at s size every between between2 k count left₀ next₀ j₀ out left next j = count - j
 
 -- in a turn a part is in the text
 inside : (c : tie.In-loop Inv-loop μ-loop)
@@ -65,16 +68,28 @@ few c =
     let start = turn .before .before .before .before .before .before in
     let a = start .args in
     let last = mod-lt (a .k + turn .before .loop .j) (start .pre .0 .0) in
-    (omega (arith, c .smaller .ensures, last), omega (arith, c .smaller .ensures, turn .loop-test .taken))
+    let left = turn .before .loop .inv .3 (turn .loop-test .taken) in
+    (omega (arith, c .smaller .ensures, last, left), omega (arith, c .smaller .ensures, turn .loop-test .taken))
+
+sub-left : tie.Need-sub-left Inv-loop μ-loop
+sub-left c = omega (arith, c .before .before .before .before .pre .0 .0)
+
+rem-left : tie.Need-rem-left Inv-loop μ-loop
+rem-left c = c .before .before .before .before .pre .0 .0
+
+sub-left-2 : tie.Need-sub-left-2 Inv-loop μ-loop
+sub-left-2 c =
+    let start = c .before .before .before .before in
+    omega (arith, mod-lt (start .args .k) (start .pre .0 .0))
 
 loop-holds : tie.Need-loop-holds Inv-loop μ-loop
-loop-holds c = (search needs, rw (cut-none _ _ _ _ _ _) (writes-nothing _ _), refl)
+loop-holds c = (search needs, rw (cut-none _ _ _ _ _ _) (writes-nothing _ _), refl, (λ h. rw add-zero))
 
-add-group : tie.Need-add-group Inv-loop μ-loop
-add-group c = search needs
+add-put-string : tie.Need-add-put-string Inv-loop μ-loop
+add-put-string c = search needs
 
 put-string-requires : tie.Need-put-string-requires Inv-loop μ-loop
-put-string-requires c κs = (c .before .before .before .before .before .before .before .pre .0 .0, omega (arith, first-room (c .before)))
+put-string-requires c κs = (c .before .before .before .before .before .before .before .pre .0 .0, c .before .before .loop .inv .3 (c .before .loop-test .taken), omega (arith, first-room (c .before)))
 
 mul-put-part : tie.Need-mul-put-part Inv-loop μ-loop
 mul-put-part c = omega (arith, inside (c .before .before .before .before .before))
@@ -86,21 +101,10 @@ put-part-requires c κs =
     (inside turn, omega (arith, first-room turn, string .put-string .ensures .next, writes-length (string .put-string .ensures)))
 
 sub-smaller : tie.Need-sub-smaller Inv-loop μ-loop
-sub-smaller c = omega (arith, c .before .before .before .before .before .before .before .before .before .before .before .before .before .before .pre .0 .0)
-
-rem-smaller : tie.Need-rem-smaller Inv-loop μ-loop
-rem-smaller c = c .before .before .before .before .before .before .before .before .before .before .before .before .before .before .pre .0 .0
+sub-smaller c = omega (arith, c .before .before .before .before .before .before .before .before .loop-test .taken)
 
 sub-smaller-2 : tie.Need-sub-smaller-2 Inv-loop μ-loop
-sub-smaller-2 c =
-    let start = c .before .before .before .before .before .before .before .before .before .before .before .before .before .before in
-    omega (arith, start .pre .0 .0, mod-lt (start .args .k + c .before .before .before .before .before .before .before .before .before .loop .j) (start .pre .0 .0))
-
-sub-smaller-3 : tie.Need-sub-smaller-3 Inv-loop μ-loop
-sub-smaller-3 c = omega (arith, c .before .before .before .before .before .before .before .before .loop-test .taken)
-
-sub-smaller-4 : tie.Need-sub-smaller-4 Inv-loop μ-loop
-sub-smaller-4 c = omega (arith, c .before .before .before .before .before .before .before .before .loop-test .taken)
+sub-smaller-2 c = omega (arith, c .before .before .before .before .before .before .before .before .loop-test .taken)
 
 smaller-requires : tie.Need-smaller-requires Inv-loop μ-loop
 smaller-requires c κs = search needs
@@ -133,6 +137,9 @@ put-headed-requires c κs =
       ),
     )
 
+sub-left-3 : tie.Need-sub-left-3 Inv-loop μ-loop
+sub-left-3 c = omega (arith, c .before .before .before .before .before .before .before .before .before .before .before .before .before .before .before .before .before .before .before .pre .0 .0)
+
 add-j : tie.Need-add-j Inv-loop μ-loop
 add-j c = omega (arith, few (c .before .before .before .before) .1)
 
@@ -150,12 +157,17 @@ loop-again c =
     let string = part .before .before .before .before in
     let turn = string .before .before in
     let l = turn .before .loop in
-    let a = turn .before .before .before .before .before .before .args in
-    let n = told .smaller .result in (
+    let start = turn .before .before .before .before .before .before in
+    let a = start .args in
+    let n = told .smaller .result in
+    let place : a .k + (l .j + (1 + n)) ≡ a .k + l .j + (1 + n) = omega arith in (
       few told .1,
       rw (cut-more (a .every) (a .between .now) (a .between2 .now) (a .s .now) (a .size) (a .k) (l .j) n (few told .0))
           (writes-then (l .inv .1) (writes-then (writes-then (string .put-string .ensures) (part .put-part .ensures)) (headed .put-headed .ensures))),
       omega (arith, writes-length (string .put-string .ensures), writes-length (part .put-part .ensures), writes-length (headed .put-headed .ensures), l .inv .2),
+      (λ h.
+          let all = next-second (a .every) (a .k + l .j) n (start .pre .0 .0) (omega (arith, h, told .smaller .ensures, l .inv .3 (turn .loop-test .taken))) in
+          rw place (omega (arith, all))),
     )
 
 same-length : tie.Need-same-length Inv-loop μ-loop
@@ -173,19 +185,20 @@ put-cut-spec =
     (tie.spec
     Inv-loop
     μ-loop
+    sub-left
+    rem-left
+    sub-left-2
     loop-holds
-    add-group
+    add-put-string
     put-string-requires
     mul-put-part
     put-part-requires
     sub-smaller
-    rem-smaller
     sub-smaller-2
-    sub-smaller-3
-    sub-smaller-4
     smaller-requires
     add-put-headed
     put-headed-requires
+    sub-left-3
     add-j
     add-j-2
     loop-less
