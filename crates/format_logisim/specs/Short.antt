@@ -1,5 +1,5 @@
--- Chunks of one bit, byte by byte, and which chunks the exporter writes so or by lines: how it goes about the text that `Logisim` defines.
-use mathlib.Core.Bool.{cond}
+-- Chunks of 1, 2 or 4 bits, byte by byte, and which chunks the exporter writes so or by lines: how it goes about the text that `Logisim` defines.
+use mathlib.Core.Bool.{Bool, cond, _||_}
 use mathlib.Core.List.{List, _∷_, _++_}
 use Prim.Native.Nat.{ℕ, _-_, _+_, _*_, _/_, _%_, _^_}
 use lib.Dec.{eqb}
@@ -25,6 +25,10 @@ brokenDigits w m v = pieces (λ k. digitOf w m v k ∷ ascii " \n") (m - 1) ++ (
 unfoldable pub byteChunks : List ℕ → ℕ → ℕ → ℕ → ℕ → List ℕ
 byteChunks bytes len w m j = pieces (λ k. chunkAt bytes len w (j * m + k)) m
 
--- How many chunks are written by bytes or by lines: those of one bit by bytes.
+-- Whether chunks of a width are written by bytes: some of them make a byte.
+unfoldable pub byBytes : ℕ → Bool
+byBytes width = eqb width 1 || (eqb width 2 || eqb width 4)
+
+-- How many chunks are written by bytes or by lines.
 unfoldable pub wholeChunks : ℕ → ℕ → ℕ
-wholeChunks len width = cond (eqb width 1) (len / 8 * 8) (len / 128 * perLine width)
+wholeChunks len width = cond (byBytes width) (len / 8 * (8 / width)) (len / 128 * perLine width)

@@ -12,8 +12,9 @@ ghost use Rattle.output.specs.Pieces.{pieces};
 ghost use Rattle.output.specs.Writes.{Writes};
 ghost use Rattle.outcome.specs.Outcome.{Exports};
 ghost use Rattle.eight_chars.specs.Word.{lowBytes};
+ghost use Rattle.hex_pair.specs.Pair.{fourBytes};
 ghost use Rattle.format_logisim.specs.Logisim.{chunkText, chunkAt, breaks, perLine, logisimText, logisimOutcome};
-ghost use Rattle.format_logisim.specs.Short.{spacedDigits, brokenDigits, byteChunks, wholeChunks};
+ghost use Rattle.format_logisim.specs.Short.{digitOf, spacedDigits, brokenDigits, byteChunks, wholeChunks};
 use bitvec::BitOffset;
 use numbers::Letters;
 use outcome::Export;
@@ -159,7 +160,7 @@ fn put_lines(
 // Four bits as binary digits with a space behind each, one character in each byte of a word, the first
 // lowest. The mask lets through four bits that are never set, the last of them because of the product's
 // highest term, so that the compiler does not know the spaces and stores the word at once.
-fn spaced_word(bits: u8) -> u64
+fn spaced_ones(bits: u8) -> u64
     requires { ⌜ bits < 16 ⌝ }
     ensures { λ r. ⌜ lowBytes r ≡ spacedDigits 1 4 bits ⌝ }
 {
@@ -167,58 +168,133 @@ fn spaced_word(bits: u8) -> u64
     ((spread >> 3) & 0x1001_1001_1001_1001) | 0x2030_2030_2030_2030
 }
 
-// Stores the bits of byte `j` with a space behind each. The byte is read for each word, which keeps the
-// stores of the two apart, and the compiler joins those of each.
-fn put_spaced(out: &mut [u8], at: usize, image: &[u8], bits: usize, j: usize) -> usize
-    requires inside { ⌜ (j * 8 + 8 ≤ bits) × (j < length (now image)) ⌝ }
-    requires room { ⌜ at + 16 ≤ length (now out) ⌝ }
-    ensures { λ r. ⌜ Writes (spacedDigits 1 8 (byteAt (now (image .entry)) bits j)) (now (out .entry)) at (now (out .exit)) r ⌝ }
+// The same of a byte in four digits of two bits. Here too the mask lets through a bit of each space that
+// is never set.
+fn spaced_twos(byte: u8) -> u64
+    ensures { λ r. ⌜ lowBytes r ≡ spacedDigits 2 4 byte ⌝ }
 {
-    let next = eight_chars::put_word(out, at, spaced_word(image[j] / 16));
-    eight_chars::put_word(out, next, spaced_word(image[j] % 16))
+    let halves = (byte / 16) as u64 + (byte % 16) as u64 * 0x1_0000_0000;
+    let spread = halves * 0x804_0001;
+    ((spread >> 2) & 0x103_0103_0103_0103) | 0x2030_2030_2030_2030
 }
 
-// Stores the bits of a byte that begins a line, with a newline behind each but the last.
-fn put_broken(out: &mut [u8], at: usize, byte: u8) -> usize
-    requires { ⌜ at + 23 ≤ length (now out) ⌝ }
-    ensures { λ r. ⌜ Writes (brokenDigits 1 8 byte) (now (out .entry)) at (now (out .exit)) r ⌝ }
+// The same of a byte in two digits of four bits, in the four lowest bytes of a word.
+fn spaced_fours(byte: u8) -> u64
+    ensures { λ r. ⌜ fourBytes r ≡ spacedDigits 4 2 byte ⌝ }
+{
+    let spread = ((byte / 16) as u64 + (byte % 16) as u64 * 65536) * 0x201;
+    let digits = spread & 0x10f_010f;
+    let letters = ((digits + 0x6_0006) >> 4) & 0x1_0001;
+    digits + 0x2030_2030 + letters * 39
+}
+
+// Stores byte `j` in digits of `width` bits with a space behind each. For digits of one bit the byte is
+// read for each word, which keeps the stores of the two apart, and the compiler joins those of each.
+fn put_spaced(out: &mut [u8], at: usize, image: &[u8], bits: usize, width: usize, j: usize) -> usize
+    requires short { ⌜ (width ≤ 4) × (width * (8 / width) ≡ 8) ⌝ }
+    requires inside { ⌜ (j * 8 + 8 ≤ bits) × (j < length (now image)) ⌝ }
+    requires room { ⌜ at + 8 / width * 2 ≤ length (now out) ⌝ }
+    ensures { λ r. ⌜ Writes (spacedDigits width (8 / width) (byteAt (now (image .entry)) bits j)) (now (out .entry)) at (now (out .exit)) r ⌝ }
+{
+    if width == 1 {
+        let next = eight_chars::put_word(out, at, spaced_ones(image[j] / 16));
+        return eight_chars::put_word(out, next, spaced_ones(image[j] % 16));
+    }
+    if width == 2 {
+        return eight_chars::put_word(out, at, spaced_twos(image[j]));
+    }
+    hex_pair::put_four(out, at, spaced_fours(image[j]))
+}
+
+// Stores `count` bytes from byte `first` on in such digits. The loop tests no place, so that the compiler
+// makes vector code of it.
+fn put_row(
+    out: &mut [u8],
+    at: usize,
+    image: &[u8],
+    bits: usize,
+    width: usize,
+    first: usize,
+    count: usize,
+) -> usize
+    requires short { ⌜ (width ≤ 4) × (width * (8 / width) ≡ 8) ⌝ }
+    requires inside { ⌜ ((first + count) * 8 ≤ bits) × (first + count ≤ length (now image)) ⌝ }
+    requires room { ⌜ at + count * (8 / width * 2) ≤ length (now out) ⌝ }
+    ensures { λ r. ⌜ Writes (pieces (λ k. spacedDigits width (8 / width) (byteAt (now (image .entry)) bits (first + k))) count) (now (out .entry)) at (now (out .exit)) r ⌝ }
 {
     let mut next = at;
-    for k in 0..7 {
-        let behind: usize = 7 - k;
-        let digit = (byte >> behind as u8) % 2;
-        next = output::put(out, next, numbers::digit_char(Letters::Lower, digit));
+    for k in 0..count {
+        next = put_spaced(out, next, image, bits, width, first + k);
+    }
+    next
+}
+
+// Digit `k` of a byte in digits of `width` bits.
+fn digit_of(byte: u8, width: usize, k: usize) -> u8
+    requires { ⌜ (width ≤ 4) × (width * (8 / width) ≡ 8) × (k < 8 / width) ⌝ }
+    ensures { λ r. ⌜ r ≡ digitOf width (8 / width) byte k ⌝ }
+{
+    let behind = (8 / width - 1 - k) * width;
+    let base: u8 = 1 << width as u8;
+    numbers::digit_char(Letters::Lower, (byte >> behind as u8) % base)
+}
+
+// Stores a byte that begins a line in digits of `width` bits, with a newline behind each but the last.
+fn put_broken(out: &mut [u8], at: usize, byte: u8, width: usize) -> usize
+    requires { ⌜ (width ≤ 4) × (width * (8 / width) ≡ 8) × (at + ((8 / width - 1) * 3 + 2) ≤ length (now out)) ⌝ }
+    ensures { λ r. ⌜ Writes (brokenDigits width (8 / width) byte) (now (out .entry)) at (now (out .exit)) r ⌝ }
+{
+    let last = 8 / width - 1;
+    let mut next = at;
+    for k in 0..last {
+        next = output::put(out, next, digit_of(byte, width, k));
         next = output::put(out, next, b' ');
         next = output::put(out, next, b'\n');
     }
-    next = output::put(out, next, numbers::digit_char(Letters::Lower, byte % 2));
+    next = output::put(out, next, digit_of(byte, width, last));
     output::put(out, next, b' ')
 }
 
-// Stores byte `j` in chunks of one bit.
-fn put_byte_bits(out: &mut [u8], at: usize, image: &[u8], bits: usize, j: usize) -> usize
-    requires inside { ⌜ (j * 8 + 8 ≤ bits) × (j < length (now image)) ⌝ }
-    requires room { ⌜ at + length (byteChunks (now image) bits 1 8 j) ≤ length (now out) ⌝ }
-    ensures { λ r. ⌜ Writes (byteChunks (now (image .entry)) bits 1 8 j) (now (out .entry)) at (now (out .exit)) r ⌝ }
+// Stores `count` bytes of a line, from its first byte `j` on, in chunks of `width` bits.
+fn put_line(
+    out: &mut [u8],
+    at: usize,
+    image: &[u8],
+    bits: usize,
+    width: usize,
+    j: usize,
+    count: usize,
+) -> usize
+    requires short { ⌜ (width ≤ 4) × (width * (8 / width) ≡ 8) ⌝ }
+    requires inside { ⌜ (j % 16 ≡ 0) × (0 < count) × (count ≤ 16) × ((j + count) * 8 ≤ bits) × (j + count ≤ length (now image)) ⌝ }
+    requires room { ⌜ at + length (pieces (λ i. byteChunks (now image) bits width (8 / width) (j + i)) count) ≤ length (now out) ⌝ }
+    ensures { λ r. ⌜ Writes (pieces (λ i. byteChunks (now (image .entry)) bits width (8 / width) (j + i)) count) (now (out .entry)) at (now (out .exit)) r ⌝ }
 {
-    if j % 16 == 0 {
-        return put_broken(out, at, image[j]);
-    }
-    let next = put_spaced(out, at, image, bits, j);
-    output::put_every(out, next, 16, j + 1, b'\n')
+    let mut next = put_broken(out, at, image[j], width);
+    next = put_row(out, next, image, bits, width, j + 1, count - 1);
+    output::put_every(out, next, 16, count, b'\n')
 }
 
-// Stores the first `count` bytes in chunks of one bit.
-fn put_bits(out: &mut [u8], at: usize, image: &[u8], bits: usize, count: usize) -> usize
+// Stores the first `count` bytes in chunks of `width` bits.
+fn put_bytes(
+    out: &mut [u8],
+    at: usize,
+    image: &[u8],
+    bits: usize,
+    width: usize,
+    count: usize,
+) -> usize
+    requires short { ⌜ (width ≤ 4) × (width * (8 / width) ≡ 8) ⌝ }
     requires inside { ⌜ (count * 8 ≤ bits) × (bits ≤ 8 * length (now image)) ⌝ }
-    requires room { ⌜ at + length (pieces (chunkAt (now image) bits 1) (count * 8)) ≤ length (now out) ⌝ }
-    ensures { λ r. ⌜ Writes (pieces (chunkAt (now (image .entry)) bits 1) (count * 8)) (now (out .entry)) at (now (out .exit)) r ⌝ }
+    requires room { ⌜ at + length (pieces (chunkAt (now image) bits width) (count * (8 / width))) ≤ length (now out) ⌝ }
+    ensures { λ r. ⌜ Writes (pieces (chunkAt (now (image .entry)) bits width) (count * (8 / width))) (now (out .entry)) at (now (out .exit)) r ⌝ }
 {
     let mut next = at;
     let mut j = 0;
     while j < count {
-        next = put_byte_bits(out, next, image, bits, j);
-        j += 1;
+        let size = output::smaller(16, count - j);
+        next = put_line(out, next, image, bits, width, j, size);
+        j += size;
     }
     next
 }
@@ -242,32 +318,32 @@ fn whole_chunks(bits: usize, width: usize) -> usize
     requires { ⌜ bits ≤ 16777216 ⌝ }
     ensures { λ r. ⌜ (r ≡ wholeChunks bits width) × (r * width ≤ bits) ⌝ }
 {
-    if width == 1 {
-        return bits / 8 * 8;
+    let bytes = bits / 8;
+    match width {
+        1 => bytes * 8,
+        2 => bytes * 4,
+        4 => bytes * 2,
+        _ => bits / 128 * per_line(width),
     }
-    bits / 128 * per_line(width)
 }
 
-// Stores these chunks.
+// Stores these chunks. Each width is a number in its call, so that no loop tests it.
 fn put_whole(out: &mut [u8], at: usize, image: &[u8], bits: usize, width: usize) -> usize
     requires inside { ⌜ bits ≤ 8 * length (now image) ⌝ }
     requires room { ⌜ at + length (pieces (chunkAt (now image) bits width) (wholeChunks bits width)) ≤ length (now out) ⌝ }
     ensures { λ r. ⌜ Writes (pieces (chunkAt (now (image .entry)) bits width) (wholeChunks bits width)) (now (out .entry)) at (now (out .exit)) r ⌝ }
 {
+    let bytes = bits / 8;
     let lines = bits / 128;
-    if width == 1 {
-        return put_bits(out, at, image, bits, bits / 8);
+    match width {
+        1 => put_bytes(out, at, image, bits, 1, bytes),
+        2 => put_bytes(out, at, image, bits, 2, bytes),
+        4 => put_bytes(out, at, image, bits, 4, bytes),
+        8 => put_lines(out, at, image, bits, 1, 16, lines),
+        16 => put_lines(out, at, image, bits, 2, 8, lines),
+        32 => put_lines(out, at, image, bits, 4, 4, lines),
+        _ => at,
     }
-    if width == 8 {
-        return put_lines(out, at, image, bits, 1, 16, lines);
-    }
-    if width == 16 {
-        return put_lines(out, at, image, bits, 2, 8, lines);
-    }
-    if width == 32 {
-        return put_lines(out, at, image, bits, 4, 4, lines);
-    }
-    at
 }
 
 // Stores the file, of `chunks` chunks: those that go by bytes or by lines, and then the others.

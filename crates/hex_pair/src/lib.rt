@@ -21,7 +21,7 @@ fn pair_word(first: u8, second: u8) -> u64
 }
 
 // Stores the four lowest bytes of a word, the lowest first.
-fn put_four(out: &mut [u8], at: usize, word: u64) -> usize
+pub fn put_four(out: &mut [u8], at: usize, word: u64) -> usize
     requires { ⌜ at + 4 ≤ length (now out) ⌝ }
     ensures { λ r. ⌜ Writes (fourBytes word) (now (out .entry)) at (now (out .exit)) r ⌝ }
 {

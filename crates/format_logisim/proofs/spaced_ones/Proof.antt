@@ -1,4 +1,4 @@
--- `format_logisim::spaced_word` meets its contract: computed for each of the 16 numbers.
+-- `format_logisim::spaced_ones` meets its contract: computed for each of the 16 numbers.
 -- Assumes nothing.
 use Prim.Native.Nat.{ℕ, _*_, _/_, _^_}
 use lib.Bits.{bitAnd, bitOr}
@@ -9,8 +9,8 @@ use Rattle.numbers.specs.Digits.{digitChar}
 use Rattle.eight_chars.specs.Word.{lowBytes}
 use Rattle.output.proofs.Exhaust.{all, same, exhaust}
 use Rattle.format_logisim.specs.Short.{digitOf, spacedDigits}
-use Rattle.format_logisim.proofs.spaced_word.Statement.{statement}
-use Rattle.format_logisim.proofs.spaced_word.Tie as tie
+use Rattle.format_logisim.proofs.spaced_ones.Statement.{statement}
+use Rattle.format_logisim.proofs.spaced_ones.Tie as tie
 
 -- the word, as the code computes it
 abbrev word : ℕ → ℕ
@@ -26,5 +26,5 @@ mul-spread c = search needs
 returns : tie.Need-returns
 returns c = exhaust (λ b. lowBytes (word b)) (spacedDigits 1 4) 16 right (c .args .bits) (c .pre)
 
-pub spaced-word-spec : {M : Type 1} → statement M
-spaced-word-spec = tie.close (tie.spec mul-spread returns)
+pub spaced-ones-spec : {M : Type 1} → statement M
+spaced-ones-spec = tie.close (tie.spec mul-spread returns)
