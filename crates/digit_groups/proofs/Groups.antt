@@ -14,7 +14,7 @@ use borrow.Author.Tests.{ne-eqb}
 use Rattle.output.specs.Pieces.{pieces, leading, joined}
 use Rattle.output.specs.Writes.{Writes}
 use Rattle.output.proofs.Order.{stride}
-use Rattle.output.proofs.Pieces.{pieces-none, pieces-next, pieces-append, pieces-equal, pieces-length}
+use Rattle.output.proofs.Pieces.{pieces-none, pieces-next, pieces-append, pieces-equal, pieces-length, pieces-most}
 use Rattle.text_parts.specs.Parts.{headedText}
 use Rattle.text_parts.proofs.Parts.{part-length, headed-length, front, pieces-cut}
 use Rattle.digits.specs.Run.{run}
@@ -35,13 +35,6 @@ pub next-second : (m q n : ℕ) → 0 < m → n ≡ m - 1 - q % m → (q + (1 + 
 next-second m q n p e =
     let place : q + (1 + n) ≡ suc (q / m) * m = omega (arith, e, div-add-mod' q m, suc-mul (q / m) m, mod-lt q p) in
     rw place (mul-mod-left (suc (q / m)) m)
-
--- More pieces are not shorter.
-pieces-longer : (f : ℕ → List ℕ) (n m : ℕ) → n ≤ m → length (pieces f n) ≤ length (pieces f m)
-pieces-longer f n m h =
-    let all : n + (m - n) ≡ m = omega arith in
-    let more = rw all at (ap length (pieces-append f n (m - n))) in
-    omega (arith, more, length-append (pieces f n) (pieces (λ k. f (n + k)) (m - n)))
 
 pub cut-none : (m : ℕ) (between between2 s : List ℕ) (size k : ℕ) → cutText m between between2 s size k 0 ≡ []
 unfolding cutText
@@ -71,7 +64,7 @@ cut-more m between between2 s size k j n l =
 cut-longer : (m : ℕ) (between between2 s : List ℕ) (size k i n : ℕ) → i ≤ n
     → length (cutText m between between2 s size k i) ≤ length (cutText m between between2 s size k n)
 unfolding cutText
-cut-longer m between between2 s size k i n h = pieces-longer _ i n h
+cut-longer m between between2 s size k i n h = pieces-most _ i n h
 
 -- They have room where all have.
 pub cut-room : (m : ℕ) (between between2 s : List ℕ) (size k j n count : ℕ) → (k + j) % m + n < m → j + (1 + n) ≤ count → count * size ≤ length s
@@ -124,7 +117,7 @@ joined-groups m between between2 bytes len w size k n = pieces-append _ k n
 pub joined-longer : (m : ℕ) (between between2 bytes : List ℕ) (len w size i n : ℕ) → i ≤ n
     → length (joined (stringAt m between between2) (groupAt bytes len w size) i) ≤ length (joined (stringAt m between between2) (groupAt bytes len w size) n)
 unfolding joined
-joined-longer m between between2 bytes len w size i n h = pieces-longer _ i n h
+joined-longer m between between2 bytes len w size i n h = pieces-most _ i n h
 
 -- Where each number is divided, one string stands before all.
 pub one-string : (m : ℕ) (between between2 : List ℕ) (item : ℕ → List ℕ) (every n : ℕ) → every ≡ 1

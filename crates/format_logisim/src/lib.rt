@@ -8,11 +8,14 @@ ghost use lib.Dec.{eqb};
 ghost use lib.ListN.{length};
 ghost use Rattle.bitvec.specs.Bits.{byteAt};
 ghost use Rattle.bitvec.specs.Size.{ceilDiv};
+ghost use Rattle.output.specs.Ascii.{ascii};
 ghost use Rattle.output.specs.Pieces.{pieces};
 ghost use Rattle.output.specs.Writes.{Writes};
 ghost use Rattle.outcome.specs.Outcome.{Exports};
 ghost use Rattle.eight_chars.specs.Word.{lowBytes};
 ghost use Rattle.hex_pair.specs.Pair.{fourBytes};
+ghost use Rattle.rows.specs.declared.ByteDigits.the-variants.{Hex};
+ghost use Rattle.rows.specs.Rows.{rowsText};
 ghost use Rattle.format_logisim.specs.Logisim.{chunkText, chunkAt, breaks, perLine, logisimText, logisimOutcome};
 ghost use Rattle.format_logisim.specs.Short.{digitOf, spacedDigits, brokenDigits, byteChunks, wholeChunks};
 use bitvec::BitOffset;
@@ -123,6 +126,37 @@ fn put_chunks(
     next
 }
 
+// Stores 16 whole bytes of the image from byte `first` on: `count` chunks of `size` bytes each, and a
+// space behind each.
+fn put_sixteen(
+    out: &mut [u8],
+    at: usize,
+    image: &[u8],
+    bits: usize,
+    first: usize,
+    size: usize,
+    count: usize,
+) -> usize
+    requires inside { ⌜ (count * size ≡ 16) × ((first + 16) * 8 ≤ bits) × (first + 16 ≤ length (now image)) ⌝ }
+    requires room { ⌜ at + count * (size * 2 + 1) ≤ length (now out) ⌝ }
+    ensures { λ r. ⌜ Writes (rowsText Hex (now (image .entry)) bits first size (ascii " ") count) (now (out .entry)) at (now (out .exit)) r ⌝ }
+{
+    if size == 1 {
+        return rows::put_by_twos(out, at, image, bits, first, b' ', 8);
+    }
+    rows::put_rows(
+        out,
+        at,
+        ByteDigits::Hex,
+        image,
+        bits,
+        first,
+        size,
+        b" ",
+        count,
+    )
+}
+
 // Stores `lines` lines of 16 whole bytes of the image: `count` chunks of `size` bytes each.
 fn put_lines(
     out: &mut [u8],
@@ -140,17 +174,7 @@ fn put_lines(
     let mut next = at;
     let mut k = 0;
     while k < lines {
-        next = rows::put_rows(
-            out,
-            next,
-            ByteDigits::Hex,
-            image,
-            bits,
-            k * 16,
-            size,
-            b" ",
-            count,
-        );
+        next = put_sixteen(out, next, image, bits, k * 16, size, count);
         next = output::put(out, next, b'\n');
         k += 1;
     }

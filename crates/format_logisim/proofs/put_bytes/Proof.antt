@@ -9,11 +9,10 @@ use lib.ListN.{length, length-append}
 use borrow.Author.Needs.{needs}
 use Rattle.output.specs.Pieces.{pieces}
 use Rattle.output.specs.Writes.{Writes}
-use Rattle.output.proofs.Pieces.{pieces-none}
+use Rattle.output.proofs.Pieces.{pieces-none, pieces-most}
 use Rattle.output.proofs.Writes.{writes-nothing, writes-then, writes-length}
 use Rattle.format_logisim.specs.Logisim.{chunkAt}
 use Rattle.format_logisim.specs.Short.{byteChunks}
-use Rattle.format_logisim.proofs.Whole.{pieces-most}
 use Rattle.format_logisim.proofs.Short.{bytes-next}
 use Rattle.format_logisim.proofs.put_bytes.Statement.{statement}
 use Rattle.format_logisim.proofs.put_bytes.Tie as tie

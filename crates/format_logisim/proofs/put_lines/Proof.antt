@@ -22,11 +22,11 @@ use Rattle.format_logisim.proofs.put_lines.Statement.{statement}
 use Rattle.format_logisim.proofs.put_lines.Tie as tie
 
 abbrev Inv-loop : tie.InvT-loop
-Inv-loop out₀ at image bits size count lines next₀ k₀ t10 out next k =
+Inv-loop out₀ at image bits size count lines next₀ k₀ out next k =
     (k ≤ lines) × Writes (pieces (chunkAt image bits (size * 8)) (k * count)) out₀ at out next × (length out ≡ length out₀)
 
 abbrev μ-loop : tie.MeasureT-loop
-μ-loop out₀ at image bits size count lines next₀ k₀ t10 out next k = lines - k
+μ-loop out₀ at image bits size count lines next₀ k₀ out next k = lines - k
 
 -- the chunks, and those of line k as a row
 abbrev chunks : tie.At-loop Inv-loop μ-loop → ℕ → List ℕ
@@ -72,27 +72,24 @@ room c =
 loop-holds : tie.Need-loop-holds Inv-loop μ-loop
 loop-holds c = (search needs, rw (zero-mul, pieces-none) (writes-nothing _ _), refl)
 
-mul-put-rows : tie.Need-mul-put-rows Inv-loop μ-loop
-mul-put-rows c = search needs
+mul-put-sixteen : tie.Need-mul-put-sixteen Inv-loop μ-loop
+mul-put-sixteen c = search needs
 
-slice-aggregate-put-rows : tie.Need-slice-aggregate-put-rows Inv-loop μ-loop
-slice-aggregate-put-rows c = search needs
-
-put-rows-requires : tie.Need-put-rows-requires Inv-loop μ-loop
-put-rows-requires c κs =
-    let turn = c .before .before in
+put-sixteen-requires : tie.Need-put-sixteen-requires Inv-loop μ-loop
+put-sixteen-requires c κs =
+    let turn = c .before in
     let l = turn .before in
     let start = l .before .before .before in
     let a = start .args in
     let bytes = mul-comm (a .count) (a .size) ∙ start .pre .0 .2 in
     let long = rows-length Hex (a .image .now) (a .bits) (l .loop .k * 16) (a .size) (ascii " ") (a .count) in
-    ((omega (arith, bytes, start .pre .0 .3), omega (arith, bytes, start .pre .0 .3, start .pre .0 .4)), omega (arith, room turn, long))
+    ((bytes, omega (arith, start .pre .0 .3), omega (arith, start .pre .0 .3, start .pre .0 .4)), omega (arith, room turn, long))
 
 put-requires : tie.Need-put-requires Inv-loop μ-loop
 put-requires c κs =
     let put = c .before .before .before in
-    let turn = put .before .before .before in
-    omega (arith, room turn, put .put-rows .ensures .next, writes-length {t = row (turn .before)} (put .put-rows .ensures))
+    let turn = put .before .before in
+    omega (arith, room turn, put .put-sixteen .ensures .next, writes-length {t = row (turn .before)} (put .put-sixteen .ensures))
 
 add-k : tie.Need-add-k Inv-loop μ-loop
 add-k c = search needs
@@ -104,13 +101,13 @@ loop-again : tie.Need-loop-again Inv-loop μ-loop
 loop-again c =
     let ended = c .before .before in
     let put = ended .before .before .before .before in
-    let turn = put .before .before .before in
+    let turn = put .before .before in
     let l = turn .before in
     let a = l .before .before .before .args in
     let more : (l .loop .k + 1) * a .count ≡ l .loop .k * a .count + a .count = omega (arith, suc-mul (l .loop .k) (a .count)) in (
       search needs,
-      rw (more, next-line turn) (writes-then (l .loop .inv .1) (writes-then {a = row l} (put .put-rows .ensures) (ended .put .ensures))),
-      omega (arith, writes-length {t = row l} (put .put-rows .ensures), writes-length (ended .put .ensures)),
+      rw (more, next-line turn) (writes-then (l .loop .inv .1) (writes-then {a = row l} (put .put-sixteen .ensures) (ended .put .ensures))),
+      omega (arith, writes-length {t = row l} (put .put-sixteen .ensures), writes-length (ended .put .ensures)),
     )
 
 same-length : tie.Need-same-length Inv-loop μ-loop
@@ -129,9 +126,8 @@ put-lines-spec =
     Inv-loop
     μ-loop
     loop-holds
-    mul-put-rows
-    slice-aggregate-put-rows
-    put-rows-requires
+    mul-put-sixteen
+    put-sixteen-requires
     put-requires
     add-k
     loop-less
