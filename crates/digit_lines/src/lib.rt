@@ -3,7 +3,7 @@ ghost use mathlib.Core.Path.{_≡_};
 ghost use Prim.Native.Nat.{_+_, _*_, _≤_, _<_, _^_};
 ghost use lib.ListN.{length};
 ghost use Rattle.output.specs.Writes.{Writes};
-ghost use Rattle.digit_lines.specs.Lines.{linesText};
+ghost use Rattle.digit_lines.specs.Lines.{linesText, blockLines};
 use bitvec::BitOffset;
 
 // Places for the digits of a block of lines.
@@ -38,7 +38,7 @@ fn put_block(
 // next block starts with a byte if this one does.
 pub fn block_lines(size: usize) -> usize
     requires { ⌜ (0 < size) × (size ≤ 1024) ⌝ }
-    ensures { λ r. ⌜ (0 < r) × (r * size ≤ 1024) ⌝ }
+    ensures { λ r. ⌜ (0 < r) × (r * size ≤ 1024) × (r ≡ blockLines size) ⌝ }
 {
     let most = 1024 / size;
     if most < 8 {
