@@ -17,7 +17,8 @@ use Rattle.output.proofs.Order.{by-order}
 use Rattle.output.proofs.Joined.{every-length}
 use Rattle.image_parts.specs.Parts.{partBits}
 use Rattle.digits.proofs.Run.{line-length}
-use Rattle.format_logisim.specs.Logisim.{chunkText, chunkAt, breaks}
+use Rattle.format_logisim.specs.Logisim.{chunkText, chunkAt}
+use Rattle.format_logisim.specs.Short.{breaks}
 
 -- A chunk of Logisim: a digit for each four bits, a space, and what follows it.
 pub chunk-parts : (bytes : List ℕ) (len i m : ℕ)

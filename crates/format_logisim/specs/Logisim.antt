@@ -1,8 +1,7 @@
 -- The image file of Logisim (document 01, module 5; the Rust's `format_logisim`).
 use mathlib.Core.Bool.{cond}
 use mathlib.Core.List.{List, _++_}
-use Prim.Native.Nat.{ℕ, zero, suc, _+_, _*_, _/_, _%_}
-use lib.Dec.{eqb}
+use Prim.Native.Nat.{ℕ, _+_, _*_, _/_}
 use Rattle.bitvec.specs.Size.{badSize, ceilDiv}
 use Rattle.output.specs.Ascii.{ascii}
 use Rattle.output.specs.Pieces.{pieces, every}
@@ -18,15 +17,6 @@ chunkText bytes len i m = hexLine bytes len i m ++ (ascii " " ++ every 16 ((i + 
 -- Chunk k of width bits each, the last one perhaps shorter.
 abbrev pub chunkAt : List ℕ → ℕ → ℕ → ℕ → List ℕ
 chunkAt bytes len width k = chunkText bytes len (k * width) (partBits len width k)
-
--- How many newlines follow the first n chunks, all of them whole.
-unfoldable pub breaks : ℕ → ℕ → ℕ
-breaks width zero = 0
-breaks width (suc n) = breaks width n + cond (eqb ((n * width + width) / 8 % 16) 0) 1 0
-
--- How many chunks make a line of 16 bytes, where they are short and of whole bytes: 8, 16 or 32 bits. 0 for any other width.
-unfoldable pub perLine : ℕ → ℕ
-perLine width = cond (eqb width 8) 16 (cond (eqb width 16) 8 (cond (eqb width 32) 4 0))
 
 -- The first line, and the chunks that hold the image.
 unfoldable pub logisimText : List ℕ → ℕ → ℕ → List ℕ

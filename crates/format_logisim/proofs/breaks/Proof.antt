@@ -7,7 +7,7 @@ use native.Mathlib.Omega.{arith}
 use lib.Dec.{eqb}
 use borrow.Author.Needs.{needs}
 use Rattle.output.proofs.Order.{stride}
-use Rattle.format_logisim.specs.Logisim.{breaks}
+use Rattle.format_logisim.specs.Short.{breaks}
 use Rattle.format_logisim.proofs.Lengths.{one-most, breaks-none, breaks-next}
 use Rattle.format_logisim.proofs.breaks.Statement.{statement}
 use Rattle.format_logisim.proofs.breaks.Tie as tie

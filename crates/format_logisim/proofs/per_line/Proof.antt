@@ -3,7 +3,7 @@
 use mathlib.Core.Path.{refl}
 use native.Mathlib.Omega.{arith}
 use borrow.Author.Tests.{ne-eqb}
-use Rattle.format_logisim.specs.Logisim.{perLine}
+use Rattle.format_logisim.specs.Short.{perLine}
 use Rattle.format_logisim.proofs.per_line.Statement.{statement}
 use Rattle.format_logisim.proofs.per_line.Tie as tie
 

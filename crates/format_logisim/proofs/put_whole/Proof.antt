@@ -7,8 +7,7 @@ use borrow.Author.Tests.{ne-eqb}
 use borrow.Author.Needs.{needs}
 use Rattle.output.proofs.Pieces.{pieces-none}
 use Rattle.output.proofs.Writes.{writes-nothing}
-use Rattle.format_logisim.specs.Logisim.{perLine}
-use Rattle.format_logisim.specs.Short.{byBytes, wholeChunks}
+use Rattle.format_logisim.specs.Short.{perLine, byBytes, wholeChunks}
 use Rattle.format_logisim.proofs.put_whole.Statement.{statement}
 use Rattle.format_logisim.proofs.put_whole.Tie as tie
 
