@@ -1,13 +1,12 @@
-// The digits of an image, written as text: runs of digits of one width, and lines in hexadecimal whose
-// first digit may be short.
+// The digits of an image, written as text: runs of digits of one width.
 ghost use mathlib.Core.Path.{_≡_};
 ghost use mathlib.Core.Bool.{true};
 ghost use mathlib.Core.List.{[], _∷_};
-ghost use Prim.Native.Nat.{_+_, _*_, _/_, _%_, _≤_, _<_, _^_, min};
+ghost use Prim.Native.Nat.{_+_, _*_, _/_, _≤_, _<_, _^_};
 ghost use lib.ListN.{length};
 ghost use Rattle.output.specs.Writes.{Writes};
 ghost use Rattle.rows.specs.Rows.{perByte, digitBits};
-ghost use Rattle.digits.specs.Run.{digitAt, run, shortDigit, hexLine};
+ghost use Rattle.digits.specs.Run.{digitAt, run};
 use bitvec::BitOffset;
 use numbers::Letters;
 use rows::ByteDigits;
@@ -276,49 +275,4 @@ pub fn put_run(
         }
     }
     put_anywhere(out, at, bytes, len, width, BitOffset(index), count)
-}
-
-// Stores the digit of `width` bits from `from` on, and nothing where the width is 0.
-pub fn put_short(
-    out: &mut [u8],
-    at: usize,
-    bytes: &[u8],
-    len: usize,
-    width: usize,
-    from: BitOffset,
-) -> usize
-    requires { ⌜ (width ≤ 5) × (from .0 + width < 2 ^ 64) × (at + min 1 width ≤ length (now out)) ⌝ }
-    ensures { λ r. ⌜ Writes (shortDigit (now (bytes .entry)) len width (from .0)) (now (out .entry)) at (now (out .exit)) r ⌝ }
-{
-    if width == 0 {
-        return at;
-    }
-    put_digit(out, at, bytes, len, width, from)
-}
-
-// Stores `count` bits from `from` on in hexadecimal, the first digit short where `count` is not a
-// multiple of 4.
-pub fn put_hex_line(
-    out: &mut [u8],
-    at: usize,
-    bytes: &[u8],
-    len: usize,
-    from: BitOffset,
-    count: usize,
-) -> usize
-    requires { ⌜ (from .0 + count < 2 ^ 64) × (at + (count + 3) / 4 ≤ length (now out)) ⌝ }
-    ensures { λ r. ⌜ Writes (hexLine (now (bytes .entry)) len (from .0) count) (now (out .entry)) at (now (out .exit)) r ⌝ }
-{
-    let short = count % 4;
-    let start = from.0;
-    let next = put_short(out, at, bytes, len, short, from);
-    put_run(
-        out,
-        next,
-        bytes,
-        len,
-        4,
-        BitOffset(start + short),
-        count / 4,
-    )
 }

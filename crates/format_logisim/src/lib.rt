@@ -95,7 +95,7 @@ fn put_chunk(
     ensures { λ r. ⌜ Writes (chunkText (now (image .entry)) bits (from .0) count) (now (out .entry)) at (now (out .exit)) r ⌝ }
 {
     let end = from.0 + count;
-    let mut next = digits::put_hex_line(out, at, image, bits, from, count);
+    let mut next = hex_line::put_hex_line(out, at, image, bits, from, count);
     next = output::put(out, next, b' ');
     output::put_every(out, next, 16, end / 8, b'\n')
 }

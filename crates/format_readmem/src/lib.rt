@@ -57,7 +57,7 @@ fn put_line(
 {
     match kind {
         Readmem::Binary => digits::put_run(out, at, image, bits, 1, from, count),
-        Readmem::Hex => digits::put_hex_line(out, at, image, bits, from, count),
+        Readmem::Hex => hex_line::put_hex_line(out, at, image, bits, from, count),
     }
 }
 

@@ -1,13 +1,13 @@
--- `digits::put_hex_line` meets its contract: the short digit and the run of whole ones, one after the other.
+-- `hex_line::put_hex_line` meets its contract: the short digit and the run of whole ones, one after the other.
 -- Assumes nothing.
 use Prim.Native.Nat.{_%_}
 use native.Mathlib.Omega.{arith}
 use borrow.Author.Needs.{needs}
 use Rattle.output.proofs.Writes.{writes-then}
 use Rattle.digits.specs.Run.{hexLine}
 use Rattle.digits.proofs.Run.{short-length}
-use Rattle.digits.proofs.put_hex_line.Statement.{statement}
-use Rattle.digits.proofs.put_hex_line.Tie as tie
+use Rattle.hex_line.proofs.put_hex_line.Statement.{statement}
+use Rattle.hex_line.proofs.put_hex_line.Tie as tie
 
 put-short-requires : tie.Need-put-short-requires
 put-short-requires c κs = search needs

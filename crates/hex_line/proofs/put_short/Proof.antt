@@ -1,11 +1,11 @@
--- `digits::put_short` meets its contract: nothing for no bits, and else one digit.
+-- `hex_line::put_short` meets its contract: nothing for no bits, and else one digit.
 -- Assumes nothing.
 use borrow.Author.Tests.{eq-eqb, ne-eqb}
 use borrow.Author.Needs.{needs}
 use Rattle.output.proofs.Writes.{writes-nothing}
 use Rattle.digits.specs.Run.{shortDigit}
-use Rattle.digits.proofs.put_short.Statement.{statement}
-use Rattle.digits.proofs.put_short.Tie as tie
+use Rattle.hex_line.proofs.put_short.Statement.{statement}
+use Rattle.hex_line.proofs.put_short.Tie as tie
 
 returns : tie.Need-returns
 unfolding shortDigit
