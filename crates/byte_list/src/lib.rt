@@ -1,12 +1,12 @@
 // A list of an image's bytes (document 01, module 4), which the separator list and the array of C are:
 // its length. The memory initialization file reads its bytes here too.
 ghost use mathlib.Core.Path.{_≡_};
-ghost use mathlib.Core.List.{List, _++_};
+ghost use mathlib.Core.List.{List};
 ghost use Prim.Native.Nat.{ℕ, _+_, _*_, _/_, _≤_, _<_, _^_, min};
 ghost use lib.ListN.{length};
 ghost use Rattle.bitvec.specs.Bits.{byteAt};
 ghost use Rattle.bitvec.specs.Size.{ceilDiv};
-ghost use Rattle.output.specs.Pieces.{pieces, leading, every};
+ghost use Rattle.output.specs.Pieces.{pieces};
 ghost use Rattle.byte_list.specs.Bytes.{badRadix, byteIn, byteList};
 use bitvec::BitOffset;
 

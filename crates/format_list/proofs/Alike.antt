@@ -1,6 +1,6 @@
 -- Groups of whole bytes are rows of bytes, and groups from one second string to the next have the first between them.
 -- Assumes nothing.
-use mathlib.Core.Path.{_≡_, refl, sym, ap, _∙_}
+use mathlib.Core.Path.{_≡_, refl, sym, _∙_}
 use mathlib.Core.Bool.{Bool, true, false, cond, not, _&&_}
 use mathlib.Core.List.{List, [], _∷_, _++_, append-assoc}
 use Prim.Native.Nat.{ℕ, suc, _+_, _-_, _*_, _/_, _%_, _<_, _≤_}
@@ -8,8 +8,8 @@ use native.Mathlib.Omega.{arith}
 use native.Mathlib.Nat.{mul-assoc, add-mul, mul-one, mul-le-mul-left, suc-mul, mul-mod-left, add-div-right, div-add-mod'}
 use lib.Arith.{digits-mod}
 use lib.Dec.{eqb}
-use lib.ListN.{length, length-append}
-use borrow.Author.Tests.{eq-eqb, ne-eqb, eqb-true}
+use lib.ListN.{length}
+use borrow.Author.Tests.{ne-eqb, eqb-true}
 use Rattle.output.specs.Pieces.{pieces, leading, joined}
 use Rattle.output.proofs.Joined.{joined-alike}
 use Rattle.output.proofs.Pieces.{pieces-equal}
@@ -18,7 +18,6 @@ use Rattle.rows.specs.declared.ByteDigits.the-variants.{Binary, Hex}
 use Rattle.rows.specs.Rows.{perByte, digitBits, bytesText, rowsText}
 use Rattle.rows.proofs.Rows.{rows-next}
 use Rattle.bases.specs.Base.{baseBits}
-use Rattle.digits.specs.Run.{run}
 use Rattle.digits.proofs.Run.{bytes-run}
 use Rattle.format_list.specs.declared.FormatListOptions.{FormatListOptions}
 use Rattle.format_list.specs.List.{groupBits, groupText, betweenGroups}

@@ -5,7 +5,6 @@ use mathlib.Core.List.{List, [], _∷_, _++_}
 use Prim.Native.Nat.{ℕ, _+_, _-_, _*_, _/_, _%_, _^_, _<_, _≤_}
 use native.Mathlib.Omega.{arith}
 use native.Mathlib.Nat.{add-zero, mod-eq-of-lt}
-use lib.Dec.{eqb}
 use lib.Pow.{high}
 use borrow.Author.Tests.{eq-eqb, ne-eqb}
 use Rattle.output.specs.Pieces.{pieces}

@@ -1,15 +1,14 @@
 -- Laws of whole bytes in digits.
 -- Assumes nothing.
 use mathlib.Core.Path.{_≡_, refl, ap, _∙_}
-use mathlib.Core.List.{List, [], _∷_, _++_, append-assoc}
-use Prim.Native.Nat.{ℕ, _+_, _*_, _/_, _%_, _<_, _≤_}
+use mathlib.Core.List.{List, [], _++_, append-assoc}
+use Prim.Native.Nat.{ℕ, _+_, _*_, _<_, _≤_}
 use native.Mathlib.Omega.{arith}
 use lib.ListN.{length, length-append, getD}
 use Rattle.bitvec.specs.Bits.{byteAt}
 use Rattle.bitvec.proofs.Words.{byte-whole}
 use Rattle.output.specs.Pieces.{pieces}
 use Rattle.output.proofs.Pieces.{pieces-none, pieces-next, pieces-append, pieces-equal, pieces-length}
-use Rattle.numbers.specs.declared.Letters.the-variants.{Lower}
 use Rattle.numbers.specs.Digits.{byteText}
 use Rattle.numbers.proofs.Digits.{digits-length}
 use Rattle.rows.specs.declared.ByteDigits.{ByteDigits}

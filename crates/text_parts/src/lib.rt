@@ -1,7 +1,6 @@
 // A text cut into parts of one size, with a character behind or a text before each: digits that were made at once and
 // are written in lines, chunks or groups.
-ghost use mathlib.Core.Path.{_≡_};
-ghost use mathlib.Core.List.{[], _∷_, _++_};
+ghost use mathlib.Core.List.{[], _∷_};
 ghost use Prim.Native.Nat.{_+_, _*_, _≤_, _<_};
 ghost use lib.ListN.{length, take, drop};
 ghost use Rattle.output.specs.Writes.{Writes};

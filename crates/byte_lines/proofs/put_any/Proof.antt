@@ -1,7 +1,7 @@
 -- `byte_lines::put_any` meets its contract: after j turns j bytes are written.
 -- Assumes nothing.
 use mathlib.Core.Path.{_≡_, refl}
-use Prim.Native.Nat.{_+_, _-_, _*_, _≤_, _<_}
+use Prim.Native.Nat.{_+_, _-_, _≤_, _<_}
 use native.Mathlib.Omega.{arith}
 use lib.ListN.{length, getD, length-append}
 use borrow.Author.Needs.{needs}

@@ -1,6 +1,6 @@
 -- `digit_lines::block_lines` meets its contract: as many as have places, or fewer.
 -- Assumes nothing.
-use Prim.Native.Nat.{_-_, _*_, _/_, _%_, _≤_, _<_}
+use Prim.Native.Nat.{_-_, _*_, _/_, _%_, _≤_}
 use native.Mathlib.Omega.{arith}
 use native.Mathlib.Nat.{div-mul-le-self, le-div-iff-mul-le, mul-le-mul-right}
 use borrow.Author.Needs.{needs}

@@ -11,7 +11,6 @@ use Rattle.output.specs.Pieces.{pieces}
 use Rattle.output.proofs.Pieces.{pieces-next}
 use Rattle.image_parts.specs.Parts.{partBits}
 use Rattle.format_logisim.specs.Logisim.{chunkAt}
-use Rattle.format_logisim.specs.Short.{breaks}
 use Rattle.format_logisim.proofs.Lengths.{chunk-most, breaks-most, whole-length, one-more}
 use Rattle.format_logisim.proofs.chunks_length.Statement.{statement}
 use Rattle.format_logisim.proofs.chunks_length.Tie as tie

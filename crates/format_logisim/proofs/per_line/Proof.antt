@@ -1,6 +1,5 @@
 -- `format_logisim::per_line` meets its contract: one case for each width.
 -- Assumes nothing.
-use mathlib.Core.Path.{refl}
 use native.Mathlib.Omega.{arith}
 use borrow.Author.Tests.{ne-eqb}
 use Rattle.format_logisim.specs.Short.{perLine}

@@ -1,7 +1,6 @@
 -- `rows::put_two` meets its contract: both bytes are within the image.
 -- Assumes nothing.
 use Prim.Native.Nat.{_+_}
-use native.Mathlib.Omega.{arith}
 use borrow.Author.Needs.{needs}
 use Rattle.rows.specs.declared.ByteDigits.the-variants.{Binary, Hex}
 use Rattle.rows.specs.Rows.{byteDigits}

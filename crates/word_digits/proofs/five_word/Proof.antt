@@ -1,12 +1,10 @@
 -- `word_digits::five_word` meets its contract: in each byte of the word a letter is found and moved by 39.
 -- Assumes nothing.
 use mathlib.Core.Path.{_≡_, ap, _∙_}
-use mathlib.Core.List.{List, [], _∷_}
-use Prim.Native.Nat.{ℕ, _+_, _*_, _/_, _%_, _^_, _≤_}
+use Prim.Native.Nat.{ℕ, _+_, _*_, _/_, _≤_}
 use native.Mathlib.Omega.{arith}
 use lib.Bits.{bitAnd, and-le-r}
 use borrow.Author.Needs.{needs}
-use Rattle.output.specs.Pieces.{pieces}
 use Rattle.numbers.specs.Digits.{digitsOf}
 use Rattle.eight_chars.specs.Word.{lowBytes}
 use Rattle.word_digits.specs.Packed.{packed}
