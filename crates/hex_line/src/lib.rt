@@ -11,7 +11,7 @@ use bitvec::BitOffset;
 use numbers::Letters;
 
 // Stores the digit of `width` bits from `from` on, and nothing where the width is 0.
-pub fn put_short(
+fn put_short(
     out: &mut [u8],
     at: usize,
     bytes: &[u8],
