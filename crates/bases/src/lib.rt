@@ -1,4 +1,5 @@
 // The bases that an image's digits can have.
+#![tactic(auto)]
 ghost use Rattle.std.specs.Prelude.{◌≡◌};
 ghost use Rattle.bases.specs.Base.{base_bits};
 

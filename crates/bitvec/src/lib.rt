@@ -1,6 +1,7 @@
 // The image: bytes and a bit length (document 01, module 1). Bit 0 is the top bit of byte 0, and
 // every bit at or past the bit length reads as zero, also in a half-used last byte and past the
 // bytes. The Rust's BitVec holds its length; here it is lent beside the bytes as `len`.
+#![tactic(auto)]
 ghost use Rattle.std.specs.Prelude.{◌≡◌, ◌+◌, ◌*◌, ◌/◌, ◌≤◌, ◌<◌, ◌^◌, length};
 ghost use Rattle.bitvec.specs.Bits.{bit_at, bits_at};
 ghost use Rattle.bitvec.specs.Size.{bad_size, ceil_div};
@@ -9,11 +10,11 @@ ghost use Rattle.bitvec.specs.Size.{bad_size, ceil_div};
 pub const MAX_BITS: usize = 16777216;
 
 // Where a bit is: document 01's bit offset.
-#[derive(Drop)]
+#[derive(Clone, Copy)]
 pub struct BitOffset(pub usize);
 
 // A bit offset divided by the address unit, rounded down: document 01's unit address.
-#[derive(Drop)]
+#[derive(Clone, Copy)]
 pub struct UnitAddress(pub usize);
 
 impl BitOffset {

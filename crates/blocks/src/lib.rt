@@ -1,6 +1,7 @@
 // The blocks of a span list (document 01, module 7): the spans in order make blocks, which are closed
 // one after the other. Spans are lent as two slices of numbers, the offsets, with 4294967295 for an
 // absent one, and the sizes.
+#![tactic(auto)]
 ghost use Rattle.std.specs.Prelude.{◌≡◌, false, ◌≢◌, [], map, ◌+◌, ◌≤◌, ◌<◌, length};
 ghost use Rattle.std.proofs.lemmas.List.Edits.{sets};
 ghost use Rattle.ordering.specs.Order.{in_order};
@@ -15,7 +16,7 @@ use span_range::{fault_at, long_list};
 
 // What `get_blocks` answers: how many blocks there are, or refusal 3 with its place, or refusal 8
 // with how many blocks there are.
-#[derive(Drop)]
+#[derive(Clone, Copy)]
 pub enum Blocks {
     Found(usize),
     SpanRange(usize),

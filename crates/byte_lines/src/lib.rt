@@ -1,5 +1,6 @@
 // The list of an image's bytes that `byte_list` defines, written with what its lines start with: the
 // separator list and the array of C.
+#![tactic(auto)]
 ghost use Rattle.std.specs.Prelude.{◌≡◌, [], ◌∷◌, ◌++◌, ◌+◌, ◌-◌, ◌*◌, ◌%◌, ◌≤◌, ◌<◌, ◌^◌, min, length};
 ghost use Rattle.bitvec.specs.Size.{ceil_div};
 ghost use Rattle.output.specs.Pieces.{leading, every};
@@ -12,7 +13,7 @@ use numbers::Letters;
 
 // How a line of the list starts: with the newline alone, or with the newline and a comment that has
 // the address in so many digits.
-#[derive(Drop)]
+#[derive(Clone, Copy)]
 pub enum LineStart {
     Newline,
     Comment(usize),

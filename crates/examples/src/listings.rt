@@ -8,7 +8,7 @@ use ordering::ABSENT;
 use outcome::Export;
 
 // A span: its bits, its address, its file, and its start and end there.
-#[derive(Drop)]
+#[derive(Clone, Copy)]
 pub(crate) struct Row {
     pub(crate) offset: u32,
     pub(crate) size: u32,

@@ -3,6 +3,7 @@
 // others published. Prints a line for each and a count. IEEE 1364, which describes the files of
 // $readmemb and $readmemh, and the documents of MIF and Logisim were not at hand: no example of their
 // own is run here.
+#![tactic(auto)]
 mod dumps;
 mod hex;
 mod listing_refusals;

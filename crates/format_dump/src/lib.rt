@@ -1,5 +1,6 @@
 // The dump of an image (document 01, module 6; the Rust's `format_dump`): addresses, digits and
 // characters, line by line. It answers a text and its length, or refusal 1, 2 or 8.
+#![tactic(auto)]
 ghost use Rattle.std.specs.Prelude.{◌≡◌, ◌-◌, ◌*◌, ◌≤◌, ◌<◌, length};
 ghost use Rattle.output.specs.Writes.{Writes};
 ghost use Rattle.outcome.specs.Outcome.{Exports};
@@ -9,7 +10,7 @@ ghost use Rattle.format_dump.specs.Dump.{in_range, dump_lines, dump_text, dump_o
 use outcome::Export;
 
 // What a dump looks like: the bits of a digit, those of a byte, and the bytes of a line.
-#[derive(Drop)]
+#[derive(Clone, Copy)]
 pub struct DumpOptions {
     pub digit_bits: usize,
     pub byte_bits: usize,

@@ -1,5 +1,6 @@
 // Digits in groups with strings between them (document 01, module 4; the Rust's `format_list`). It
 // answers a text and its length, or refusal 1, 2 or 8.
+#![tactic(auto)]
 ghost use Rattle.std.specs.Prelude.{◌≡◌, cond, not, ◌||◌, ◌&&◌, ◌++◌, ◌+◌, ◌-◌, ◌*◌, ◌≤◌, ◌<◌, ◌^◌, eqb, length};
 ghost use Rattle.bitvec.specs.Size.{ceil_div};
 ghost use Rattle.output.specs.Pieces.{pieces, joined, leading};
@@ -15,7 +16,7 @@ use outcome::Export;
 use rows::ByteDigits;
 
 // The options of a list but its strings, which are lent beside it.
-#[derive(Drop)]
+#[derive(Clone, Copy)]
 pub struct FormatListOptions {
     pub base: usize,
     pub digits_per_group: usize,

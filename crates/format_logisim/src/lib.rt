@@ -1,5 +1,6 @@
 // The image file of Logisim (document 01, module 5; the Rust's `format_logisim`). It answers a text
 // and its length, or refusal 1, 2 or 8.
+#![tactic(auto)]
 ghost use Rattle.std.specs.Prelude.{◌≡◌, cond, List, ℕ, ◌+◌, ◌-◌, ◌*◌, ◌/◌, ◌%◌, ◌≤◌, ◌<◌, ◌^◌, eqb, length};
 ghost use Rattle.bitvec.specs.Bits.{byte_at};
 ghost use Rattle.bitvec.specs.Size.{ceil_div};

@@ -11,7 +11,7 @@ use bitvec::BitOffset;
 use outcome::Export;
 
 // What `format_binary` answers: the export, and whether padding was added, where the Rust warns.
-#[derive(Drop)]
+#[derive(Clone, Copy)]
 pub struct BinaryExport {
     pub export: Export,
     pub padded: bool,

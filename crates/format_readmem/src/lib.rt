@@ -1,5 +1,6 @@
 // The memory files of Verilog (document 01, module 3; the Rust's `format_readmemb` and
 // `format_readmemh`). Each answers a text and its length, or refusal 1, 2 or 8.
+#![tactic(auto)]
 ghost use Rattle.std.specs.Prelude.{◌≡◌, List, ℕ, ◌+◌, ◌-◌, ◌*◌, ◌%◌, ◌≤◌, ◌<◌, ◌^◌, length};
 ghost use Rattle.bitvec.specs.Size.{ceil_div};
 ghost use Rattle.output.specs.Pieces.{pieces};
@@ -14,7 +15,7 @@ use outcome::Export;
 use rows::ByteDigits;
 
 // Which of the two files: a digit for each bit, or hexadecimal digits.
-#[derive(Drop)]
+#[derive(Clone, Copy)]
 enum Readmem {
     Binary,
     Hex,

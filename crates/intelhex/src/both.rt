@@ -10,7 +10,7 @@ use crate::hex::format_intelhex;
 use outcome::Export;
 
 // The answers of two exports.
-#[derive(Drop)]
+#[derive(Clone, Copy)]
 pub struct Both {
     pub first: Export,
     pub second: Export,

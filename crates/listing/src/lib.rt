@@ -1,6 +1,7 @@
 // The columns of the annotated listing (document 01, module 9; the Rust's `format_annotated`): its
 // options, the widths of its columns, and its heading. A caller has shown that the options are in
 // their range, and that there is room.
+#![tactic(auto)]
 ghost use Rattle.std.specs.Prelude.{◌≡◌, false, ◌+◌, ◌≤◌, max, length};
 ghost use Rattle.output.specs.Writes.{Writes};
 ghost use Rattle.numbers.specs.Digits.{digit_count, padded};
@@ -10,7 +11,7 @@ use numbers::Letters;
 use ordering::ABSENT;
 
 // The options of a listing. The label switch is 0 for off and 1 for on.
-#[derive(Drop)]
+#[derive(Clone, Copy)]
 pub struct FormatAnnotatedOptions {
     pub base: usize,
     pub addr_base: usize,
@@ -19,7 +20,7 @@ pub struct FormatAnnotatedOptions {
 }
 
 // The widths of the columns: the position's byte and its bit, the logical address, and the contents.
-#[derive(Drop)]
+#[derive(Clone, Copy)]
 pub struct Widths {
     pub outp: usize,
     pub outp_bit: usize,

@@ -1,4 +1,6 @@
 // Digits and numbers as text, written into the output buffer.
+#![tactic(auto)]
+
 ghost use Rattle.std.specs.Prelude.{◌≡◌, cond, ◌+◌, ◌≤◌, ◌<◌, max, ltb, length};
 ghost use Rattle.output.specs.Writes.{Writes};
 ghost use Rattle.numbers.specs.declared.Letters.TheVariants.{Lower};
@@ -7,7 +9,7 @@ ghost use Rattle.numbers.specs.Digits.{letter_ten, digit_char, byte_text, digit_
 use output::{free, put, put_fill};
 
 // The letters of the digits above nine.
-#[derive(Drop)]
+#[derive(Clone, Copy)]
 pub enum Letters {
     Lower,
     Upper,

@@ -1,10 +1,11 @@
 // The answer of an export, and the tests that tell an option outside its range.
+#![tactic(auto)]
 ghost use Rattle.std.specs.Prelude.{◌≡◌};
 ghost use Rattle.outcome.specs.Outcome.{answer_of, outside, too_long};
 
 // What an exporter answers: the length of the text, or one of the eight refusals of document 01, in
 // the order of their numbers, with the place or the length that the paper returns with it.
-#[derive(Drop)]
+#[derive(Clone, Copy)]
 pub enum Export {
     Text(usize),
     ImageSize,

@@ -1,6 +1,7 @@
 // Whole bytes of an image in digits, in rows with a text behind each: the inner loops of the formats
 // that write lines, chunks or groups of whole bytes. All bytes are in the image, which the caller has
 // shown, so that none is tested here.
+#![tactic(auto)]
 ghost use Rattle.std.specs.Prelude.{[], ◌∷◌, ◌++◌, ◌+◌, ◌*◌, ◌≤◌, ◌<◌, length};
 ghost use Rattle.output.specs.Writes.{Writes};
 ghost use Rattle.numbers.specs.Digits.{digits_of};
@@ -10,7 +11,7 @@ ghost use Rattle.rows.specs.Rows.{digits_per_byte, byte_digits, bytes_text, rows
 use numbers::Letters;
 
 // How a byte is written: a digit for each bit, or two hexadecimal digits.
-#[derive(Drop)]
+#[derive(Clone, Copy)]
 pub enum ByteDigits {
     Binary,
     Hex,

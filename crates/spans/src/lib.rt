@@ -1,5 +1,6 @@
 // The span record (document 01, "What an exporter is lent"; the Rust's `BitVecSpan`), and the records
 // of a slice as columns of numbers, which is how the core takes them.
+#![tactic(auto)]
 ghost use Rattle.std.specs.Prelude.{◌≡◌, min};
 ghost use Rattle.spans.specs.Copies.{columns_of, listing_columns_of};
 ghost use Rattle.spans.specs.Spans.{offset_number, start_number, end_number, offset_from, location_from};
@@ -10,14 +11,14 @@ use ordering::ABSENT;
 const NO_LOCATION: u64 = 18446744073709551615;
 
 // An offset in bits, or none.
-#[derive(Drop)]
+#[derive(Clone, Copy)]
 pub enum Offset {
     At(u32),
     Absent,
 }
 
 // A start and an end in a source text, or none.
-#[derive(Drop)]
+#[derive(Clone, Copy)]
 pub enum Location {
     In(u64, u64),
     Nowhere,
@@ -25,7 +26,7 @@ pub enum Location {
 
 // A span: where it stands in the image, its size in bits, its logical address, and the part of a
 // source text that it comes from.
-#[derive(Drop)]
+#[derive(Clone, Copy)]
 pub struct Span {
     pub offset: Offset,
     pub size: u32,

@@ -2,6 +2,7 @@
 // `tests/compare/run --vectors` made: for each answer a line `KIND OPTION OPTION2 OPTION3 STRING
 // STRING2 STRING3 STRING4 BITS IMAGE TEXT`, numbers in decimal, bytes in hexadecimal, `-` for none.
 // Prints a line with a count for each exporter, and for those that take spans one through records.
+#![tactic(auto)]
 ghost use Rattle.std.specs.Prelude.{◌+◌, ◌≤◌, ◌<◌, length, ◌≡◌};
 ghost use Rattle.io.specs.Counts.{IsPrefixLen};
 
@@ -16,14 +17,14 @@ use outcome::Export;
 const OLD: u8 = 90;
 
 // A number, and the place behind it.
-#[derive(Drop)]
+#[derive(Clone, Copy)]
 struct Parsed {
     value: usize,
     next: usize,
 }
 
 // A line of the record: its numbers, and the places of its first string, of its image and of its text.
-#[derive(Drop)]
+#[derive(Clone, Copy)]
 struct Line {
     kind: u8,
     option: usize,
