@@ -1,0 +1,30 @@
+-- `blocks::one_block` meets its contract: spans that adjoin make the block from the first offset to the last end.
+-- Assumes nothing.
+use mathlib.Core.Path.{sym, ap, ◌∙◌}
+use mathlib.Core.List.{List, map}
+use Prim.Native.Nat.{◌-◌}
+use native.Mathlib.Nat.{zero-add}
+use native.Mathlib.Omega.{arith}
+use lib.ListN.{length}
+use lib.Seq.{sets}
+use Rattle.blocks.specs.Blocks.{Block}
+use Rattle.blocks.proofs.Adjoining.{ends_within, first_least, adjoin_one}
+use Rattle.blocks.proofs.one_block.Goals as goal
+
+pub overflow_add-size : goal.overflow_add-size
+overflow_add-size c =
+    let a = c.args in
+    let some = c.requires.lent.1.some in
+    record { fits = omega (arith, ends_within a.offsets.now a.sizes.now c.requires.lent.1 c.requires.good (length a.offsets.now - 1) (omega (arith, some))) }
+
+pub overflow_sub-size : goal.overflow_sub-size
+overflow_sub-size c =
+    let a = c.args in
+    let some = c.requires.lent.1.some in
+    omega (arith, first_least a.offsets.now a.sizes.now c.requires.lent.1 c.requires.good (length a.offsets.now - 1) (omega (arith, some)))
+
+pub returns : goal.returns
+returns c =
+    let e = c.close.ensures in
+    let a = c.args in
+    let one = sym (adjoin_one a.offsets.now a.sizes.now c.requires.lent.1 c.requires.good) in record { counted = e.0 ∙ zero-add _ ∙ ap (length {A = Block}) one; offsets = e.1.0 ∙ ap (λ (l : List Block). sets a.block-offsets.now 0 (map (λ b. b.offset) l)) one; sizes = e.1.1 ∙ ap (λ (l : List Block). sets a.block-sizes.now 0 (map (λ b. b.size) l)) one }

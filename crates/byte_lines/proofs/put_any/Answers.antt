@@ -1,0 +1,65 @@
+-- `byte_lines::put_any` meets its contract: after j turns j bytes are written.
+-- Assumes nothing.
+use mathlib.Core.Path.{◌≡◌, refl}
+use Prim.Native.Nat.{◌+◌, ◌-◌, ◌≤◌, ◌<◌}
+use native.Mathlib.Omega.{arith}
+use lib.ListN.{length, get_or, length-append}
+use borrow.Author.Rules.{rules}
+use Rattle.bitvec.specs.Bits.{byte_at}
+use Rattle.bitvec.proofs.Words.{byte_whole}
+use Rattle.output.proofs.Writes.{writes_nothing, writes_then, writes_length}
+use Rattle.byte_list.specs.Bytes.{byte_in}
+use Rattle.byte_lines.proofs.Items.{items_none, items_next, items_room}
+use Rattle.byte_lines.proofs.put_any.Goals as goal
+
+pub loop-j-init : goal.loop-j-init
+loop-j-init c = (search rules, rw (items_none _ _ _ _ _) (writes_nothing _ _), refl)
+
+pub put_text-next-requires : goal.put_text-next-requires
+put_text-next-requires c =
+    let room : (let a = c.args in c.loop-j.next + (length a.separator.now + length (byte_in a.radix (byte_at a.image.now a.bits (a.first + c.loop-j.j)))) ≤ length c.loop-j.out) = let l = c.loop-j in
+    let a = c.args in
+    omega (
+      arith,
+      l.invariant.1.next,
+      l.invariant.2,
+      items_room a.radix a.separator.now a.image.now a.bits a.first l.j a.count c.loop-j-test.true,
+      length-append a.separator.now (byte_in a.radix (byte_at a.image.now a.bits (a.first + l.j))),
+      c.requires.room,
+    ) in
+    omega (arith, room)
+
+pub put_byte_in-next-requires : goal.put_byte_in-next-requires
+put_byte_in-next-requires c =
+    let byte : (let a = c.args in let place = a.first + c.loop-j.j in get_or a.image.now place 0 < 256 → byte_at a.image.now a.bits place ≡ get_or a.image.now place 0) = λ l. let a = c.args in
+    byte_whole a.image.now a.bits (a.first + c.loop-j.j) (omega (arith, c.loop-j-test.true, c.requires.inside.0)) l in
+    let room : (let a = c.args in c.loop-j.next + (length a.separator.now + length (byte_in a.radix (byte_at a.image.now a.bits (a.first + c.loop-j.j)))) ≤ length c.loop-j.out) = let l = c.loop-j in
+    let a = c.args in
+    omega (
+      arith,
+      l.invariant.1.next,
+      l.invariant.2,
+      items_room a.radix a.separator.now a.image.now a.bits a.first l.j a.count c.loop-j-test.true,
+      length-append a.separator.now (byte_in a.radix (byte_at a.image.now a.bits (a.first + l.j))),
+      c.requires.room,
+    ) in
+    let place = c.args.first + c.loop-j.j in
+    rw (← byte (c.type_inv.image place).fits)
+    (omega (arith, room, c.put_text-next.ensures.next, writes_length c.put_text-next.ensures))
+
+pub loop-j-preserved : goal.loop-j-preserved
+loop-j-preserved c =
+    let byte : (let a = c.args in let place = a.first + c.loop-j.j in get_or a.image.now place 0 < 256 → byte_at a.image.now a.bits place ≡ get_or a.image.now place 0) = λ l. let a = c.args in
+    byte_whole a.image.now a.bits (a.first + c.loop-j.j) (omega (arith, c.loop-j-test.true, c.requires.inside.0)) l in
+    let l = c.loop-j in
+    let a = c.args in (
+      search rules,
+      rw (items_next a.radix a.separator.now a.image.now a.bits a.first l.j, byte (c.type_inv.image (a.first + l.j)).fits)
+          (writes_then l.invariant.1 (writes_then c.put_text-next.ensures c.put_byte_in-next.ensures)),
+      omega (arith, l.invariant.2, writes_length c.put_text-next.ensures, writes_length c.put_byte_in-next.ensures),
+    )
+
+pub returns : goal.returns
+returns c =
+    let done : c.loop-j.j ≡ c.args.count = omega arith in
+    rw done at c.loop-j.invariant.1

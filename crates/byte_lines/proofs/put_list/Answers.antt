@@ -1,0 +1,83 @@
+-- `byte_lines::put_list` meets its contract: at each turn k bytes are written.
+-- Assumes nothing.
+use mathlib.Core.Path.{◌≡◌, refl, ap}
+use Prim.Native.Nat.{◌+◌, ◌-◌, ◌≤◌}
+use native.Mathlib.Omega.{arith}
+use lib.ListN.{length, length-append}
+use borrow.Author.Rules.{rules}
+use Rattle.bitvec.specs.Size.{ceil_div}
+use Rattle.output.specs.Pieces.{leading, joined}
+use Rattle.output.proofs.Joined.{joined_none, joined_next, joined_room}
+use Rattle.output.proofs.Writes.{writes_nothing, writes_then, writes_length}
+use Rattle.byte_list.specs.Bytes.{byte_list}
+use Rattle.byte_lines.specs.Items.{items_text}
+use Rattle.byte_lines.specs.Start.{line_start}
+use Rattle.byte_lines.proofs.Items.{gap, item, list_items, list_room}
+use Rattle.byte_lines.proofs.put_list.Goals as goal
+
+pub loop-k-init : goal.loop-k-init
+loop-k-init c = (search rules, rw joined_none (writes_nothing _ _), refl)
+
+pub byte_of-byte-requires : goal.byte_of-byte-requires
+byte_of-byte-requires c =
+    let whole = c.whole_bytes-whole.ensures in
+    (omega arith, whole.1, whole.2)
+
+pub put_between-next-requires : goal.put_between-next-requires
+unfolding byte_list
+put_between-next-requires c =
+    let room : (let a = c.args in c.loop-k.next + (length (leading (gap a.separator.now (line_start a.start)) c.loop-k.k) + length (item a.radix a.image.now a.bits c.loop-k.k)) ≤ length c.loop-k.out) = let a = c.args in
+    let one = joined_room (gap a.separator.now (line_start a.start)) (item a.radix a.image.now a.bits) c.loop-k.k (ceil_div a.bits 8) (omega arith) in
+    omega (arith, c.requires.2, c.loop-k.invariant.1.next) in
+    omega (arith, room)
+
+pub put_byte_in-next-requires : goal.put_byte_in-next-requires
+unfolding byte_list
+put_byte_in-next-requires c =
+    let room : (let a = c.args in c.loop-k.next + (length (leading (gap a.separator.now (line_start a.start)) c.loop-k.k) + length (item a.radix a.image.now a.bits c.loop-k.k)) ≤ length c.loop-k.out) = let a = c.args in
+    let one = joined_room (gap a.separator.now (line_start a.start)) (item a.radix a.image.now a.bits) c.loop-k.k (ceil_div a.bits 8) (omega arith) in
+    omega (arith, c.requires.2, c.loop-k.invariant.1.next) in
+    rw c.byte_of-byte.ensures (omega (arith, room, c.put_between-next.ensures.next))
+
+pub line_rest-more-requires : goal.line_rest-more-requires
+line_rest-more-requires c = omega (arith, c.loop-k-test.true)
+
+pub put_items-next-requires : goal.put_items-next-requires
+unfolding byte_list
+put_items-next-requires c =
+    let l = c.loop-k in
+    let a = c.args in
+    let whole = c.whole_bytes-whole.ensures in
+    let more = c.line_rest-more.result in
+    let stands = list_items a.radix a.separator.now a.image.now (line_start a.start) a.bits l.k more (omega (arith, c.line_rest-more.ensures)) in
+    let put-byte-in = rw c.byte_of-byte.ensures at c.put_byte_in-next.ensures in
+    let done = writes_then l.invariant.1 (writes_then c.put_between-next.ensures put-byte-in) in record { inside = λ p. (omega (arith, c.line_rest-more.ensures, whole.1, p), omega (arith, c.line_rest-more.ensures, whole.2, p)); room = omega (
+        arith,
+        done.next,
+        writes_length done,
+        ap length (joined_next (gap a.separator.now (line_start a.start)) (item a.radix a.image.now a.bits) l.k),
+        ap length stands,
+        length-append (joined (gap a.separator.now (line_start a.start)) (item a.radix a.image.now a.bits) (l.k + 1)) (items_text a.radix a.separator.now a.image.now a.bits (l.k + 1) more),
+        list_room (gap a.separator.now (line_start a.start)) (item a.radix a.image.now a.bits) (l.k + 1 + more) (ceil_div a.bits 8) (omega (arith, c.line_rest-more.ensures, whole.0, c.loop-k-test.true)),
+        c.requires.2,
+      ) }
+
+pub loop-k-smaller : goal.loop-k-smaller
+loop-k-smaller c = omega (arith, c.loop-k-test.true)
+
+pub loop-k-preserved : goal.loop-k-preserved
+loop-k-preserved c =
+    let l = c.loop-k in
+    let a = c.args in
+    let put-byte-in = rw c.byte_of-byte.ensures at c.put_byte_in-next.ensures in (
+      omega (arith, c.line_rest-more.ensures, c.whole_bytes-whole.ensures.0, c.loop-k-test.true),
+      rw (list_items a.radix a.separator.now a.image.now (line_start a.start) a.bits l.k c.line_rest-more.result (omega (arith, c.line_rest-more.ensures)), joined_next)
+          (writes_then (writes_then l.invariant.1 (writes_then c.put_between-next.ensures put-byte-in)) c.put_items-next.ensures),
+      search rules,
+    )
+
+pub returns : goal.returns
+unfolding byte_list
+returns c =
+    let done : c.loop-k.k ≡ ceil_div c.args.bits 8 = omega arith in
+    rw (← done) c.loop-k.invariant.1

@@ -1,0 +1,15 @@
+use mathlib.Core.Path.{◌≡◌}
+use Prim.Native.Nat.{◌+◌, ◌-◌, ◌*◌, ◌≤◌}
+use lib.ListN.{length}
+use Rattle.output.specs.Writes.{Writes}
+use Rattle.digit_lines.specs.Lines.{lines_text}
+use Rattle.digit_lines.proofs.put_lines.Given as goal
+
+abbrev pub invariant-loop-k : goal.invariant-loop-k
+invariant-loop-k l = (l.k ≤ l.count)
+    × (l.offset ≡ l.initial.offset + l.k * (l.size * l.width))
+    × Writes (lines_text l.bytes l.len l.width l.initial.offset l.size l.tail l.k) l.initial.out l.at l.out l.next
+    × (length l.out ≡ length l.initial.out)
+
+abbrev pub decreases-loop-k : goal.decreases-loop-k
+decreases-loop-k l = l.count - l.k

@@ -1,0 +1,14 @@
+-- `dump_line::dump_char` meets its contract: the byte that is read is the byte that is printed.
+-- Assumes nothing.
+use borrow.Author.Tests.{lt-ltb, le-ltb}
+use Rattle.dump_line.specs.Line.{dump_char}
+use Rattle.dump_line.proofs.dump_char.Goals as goal
+
+pub returns-then-bits-bit : goal.returns-then-bits-bit
+unfolding dump_char
+returns-then-bits-bit c = simp (le-ltb _ _ c.if-bits-bit.true)
+
+pub returns : goal.returns
+unfolding dump_char
+returns c =
+    simp (lt-ltb _ _ c.if-bits-bit.false) (rw (← c.read_byte.ensures) c.printed.ensures)

@@ -1,0 +1,38 @@
+-- `dump_line::put_binary_column` meets its contract: after j turns j bytes are written, each with what stands before it.
+-- Assumes nothing.
+use mathlib.Core.Path.{◌≡◌, refl}
+use Prim.Native.Nat.{◌+◌, ◌-◌, ◌*◌, ◌≤◌}
+use native.Mathlib.Omega.{arith}
+use lib.ListN.{length}
+use borrow.Author.Rules.{rules}
+use Rattle.output.specs.Pieces.{leading}
+use Rattle.output.proofs.Joined.{joined_none, joined_next, joined_room}
+use Rattle.output.proofs.Writes.{writes_nothing, writes_then}
+use Rattle.dump_line.proofs.Lengths.{gap, line_byte, byte_length}
+use Rattle.dump_line.proofs.put_binary_column.Goals as goal
+
+pub loop-j-init : goal.loop-j-init
+loop-j-init c = (search rules, rw joined_none (writes_nothing _ _), refl)
+
+pub put_between-next-requires : goal.put_between-next-requires
+put_between-next-requires c =
+    let room : (let l = c.loop-j in let a = c.args in l.next + (length (leading gap l.j) + length (line_byte a.image.now a.bits 1 a.first l.j)) ≤ length l.out) = let l = c.loop-j in
+    let a = c.args in
+    omega (arith, l.invariant.1.next, joined_room gap (line_byte a.image.now a.bits 1 a.first) l.j a.count c.loop-j-test.true) in
+    (omega arith, omega (arith, room))
+
+pub put_binary_byte-next-requires : goal.put_binary_byte-next-requires
+put_binary_byte-next-requires c =
+    let room : (let l = c.loop-j in let a = c.args in l.next + (length (leading gap l.j) + length (line_byte a.image.now a.bits 1 a.first l.j)) ≤ length l.out) = let l = c.loop-j in
+    let a = c.args in
+    omega (arith, l.invariant.1.next, joined_room gap (line_byte a.image.now a.bits 1 a.first) l.j a.count c.loop-j-test.true) in
+    let a = c.args in record { inside = (omega (arith, c.requires.inside.0), omega (arith, c.requires.inside.1)); room = omega (arith, room, c.put_between-next.ensures.next, byte_length a.image.now a.bits 1 ((a.first + c.loop-j.j) * 8)) }
+
+pub loop-j-preserved : goal.loop-j-preserved
+loop-j-preserved c =
+    (search rules, rw joined_next (writes_then c.loop-j.invariant.1 (writes_then c.put_between-next.ensures c.put_binary_byte-next.ensures)), search rules)
+
+pub returns : goal.returns
+returns c =
+    let done : c.loop-j.j ≡ c.args.count = omega arith in
+    rw done at c.loop-j.invariant.1

@@ -1,0 +1,21 @@
+use mathlib.Core.Path.{◌≡◌}
+use mathlib.Core.List.{List}
+use Prim.Native.Nat.{ℕ, ◌-◌, ◌*◌, ◌≤◌}
+use lib.ListN.{length}
+use Rattle.output.specs.Pieces.{pieces}
+use Rattle.output.specs.Writes.{Writes}
+use Rattle.dump_line.specs.Line.{dump_line}
+use Rattle.format_dump.proofs.write_dump.Given as goal
+
+-- line k
+abbrev line : List ℕ → ℕ → ℕ → ℕ → ℕ → ℕ → List ℕ
+line bytes len w n address k = dump_line bytes len w n address (k * n)
+
+abbrev pub invariant-loop-k : goal.invariant-loop-k
+invariant-loop-k l = (l.k ≤ l.lines)
+    × (l.first ≡ l.k * l.count)
+    × Writes (pieces (line l.image l.bits l.width l.count l.address) l.k) l.initial.out 0 l.out l.next
+    × (length l.out ≡ length l.initial.out)
+
+abbrev pub decreases-loop-k : goal.decreases-loop-k
+decreases-loop-k l = l.lines - l.k

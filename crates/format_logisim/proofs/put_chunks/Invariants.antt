@@ -1,0 +1,17 @@
+use mathlib.Core.Path.{◌≡◌}
+use Prim.Native.Nat.{◌+◌, ◌-◌, ◌*◌, ◌≤◌}
+use lib.ListN.{length}
+use Rattle.output.specs.Pieces.{pieces}
+use Rattle.output.specs.Writes.{Writes}
+use Rattle.format_logisim.specs.Logisim.{chunk_at}
+use Rattle.format_logisim.proofs.put_chunks.Given as goal
+
+abbrev pub invariant-loop-i : goal.invariant-loop-i
+invariant-loop-i l = (l.i ≤ l.chunks)
+    × (l.first ≤ l.i)
+    × (l.offset ≡ l.i * l.width)
+    × Writes (pieces (λ k. chunk_at l.image l.bits l.width (l.first + k)) (l.i - l.first)) l.initial.out l.at l.out l.next
+    × (length l.out ≡ length l.initial.out)
+
+abbrev pub decreases-loop-i : goal.decreases-loop-i
+decreases-loop-i l = l.chunks - l.i

@@ -1,0 +1,65 @@
+-- `format_logisim::put_spaced` meets its contract: one case for each width.
+-- Assumes nothing.
+use mathlib.Core.Path.{◌≡◌}
+use Prim.Native.Nat.{◌/◌}
+use native.Mathlib.Omega.{arith}
+use lib.ListN.{get_or}
+use Rattle.bitvec.proofs.Words.{byte_whole}
+use Rattle.output.proofs.Writes.{writes_then, writes_length}
+use Rattle.format_logisim.proofs.Short.{word_length, halves, four_bits}
+use Rattle.format_logisim.proofs.put_spaced.Goals as goal
+
+pub spaced_ones-requires : goal.spaced_ones-requires
+spaced_ones-requires c = omega (arith, (c.type_inv.image c.args.j).fits)
+
+pub put_word-next-requires : goal.put_word-next-requires
+put_word-next-requires c =
+    omega (arith, rw c.if-width-eq1.true at c.requires.room)
+
+pub put_word-requires : goal.put_word-requires
+put_word-requires c =
+    omega
+    (arith, rw c.if-width-eq1.true at c.requires.room, c.put_word-next.ensures.next, writes_length c.put_word-next.ensures, word_length c.spaced_ones.result)
+
+pub returns-then-width-eq1 : goal.returns-then-width-eq1
+returns-then-width-eq1 c =
+    let a = c.args in
+    let small = (c.shared_slice_known-then-width-eq1-1.given a.j).fits in
+    rw (
+      c.if-width-eq1.true,
+      byte_whole a.image.now a.bits a.j c.requires.inside.0 small,
+      ← halves (get_or a.image.now a.j 0) small,
+      ← c.spaced_ones.ensures,
+      ← c.spaced_ones-then-width-eq1.ensures,
+    )
+    (writes_then c.put_word-next.ensures c.put_word.ensures)
+
+pub put_word-requires-then-width-eq2 : goal.put_word-requires-then-width-eq2
+put_word-requires-then-width-eq2 c =
+    omega (arith, rw c.if-width-eq2.true at c.requires.room)
+
+pub returns-then-width-eq2 : goal.returns-then-width-eq2
+returns-then-width-eq2 c =
+    let a = c.args in
+    rw (
+      c.if-width-eq2.true,
+      byte_whole a.image.now a.bits a.j c.requires.inside.0 (c.type_inv.image a.j).fits,
+      ← c.spaced_twos.ensures,
+    )
+    c.put_word-then-width-eq2.ensures
+
+pub put_four-requires : goal.put_four-requires
+put_four-requires c =
+    let four : c.args.width ≡ 4 = four_bits c.args.width (8 / c.args.width) c.requires.short.0 c.requires.short.1 c.if-width-eq1.false c.if-width-eq2.false in
+    omega (arith, rw (four) at c.requires.room)
+
+pub returns : goal.returns
+returns c =
+    let four : c.args.width ≡ 4 = four_bits c.args.width (8 / c.args.width) c.requires.short.0 c.requires.short.1 c.if-width-eq1.false c.if-width-eq2.false in
+    let a = c.args in
+    rw (
+      four,
+      byte_whole a.image.now a.bits a.j c.requires.inside.0 (c.type_inv.image a.j).fits,
+      ← c.spaced_fours.ensures,
+    )
+    c.put_four.ensures

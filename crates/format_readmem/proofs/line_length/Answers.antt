@@ -1,0 +1,18 @@
+-- `format_readmem::line_length` meets its contract: one case for each kind of file.
+-- Assumes nothing.
+use mathlib.Core.Path.{sym, ap, ◌∙◌}
+use Rattle.format_readmem.specs.declared.Readmem.{Readmem}
+use Rattle.format_readmem.proofs.Lengths.{line_digits, line_digits_lem}
+use Rattle.format_readmem.proofs.line_length.Goals as goal
+
+pub returns-in-Binary : goal.returns-in-Binary
+returns-in-Binary c bytes len i =
+    let a = c.args in
+    line_digits_lem a.kind bytes len i a.count ∙ ap (λ (k : Readmem). line_digits k a.count) c.enum_told-1.given.1
+
+pub returns-in-Hex : goal.returns-in-Hex
+returns-in-Hex c bytes len i =
+    let a = c.args in
+    line_digits_lem a.kind bytes len i a.count
+    ∙ ap (λ (k : Readmem). line_digits k a.count) c.enum_told-in-Hex-1.given.1
+    ∙ sym c.parts.ensures

@@ -1,0 +1,32 @@
+-- `format_readmem::put_line` meets its contract: one case for each kind of file.
+-- Assumes nothing.
+use mathlib.Core.Path.{◌≡◌, ap}
+use Prim.Native.Nat.{◌+◌, ◌/◌}
+use native.Mathlib.Omega.{arith}
+use borrow.Author.Rules.{rules}
+use Rattle.bitvec.specs.Size.{ceil_div}
+use Rattle.format_readmem.specs.declared.Readmem.{Readmem}
+use Rattle.format_readmem.specs.Readmem.{line_text}
+use Rattle.format_readmem.proofs.Lengths.{line_digits, line_digits_lem}
+use Rattle.format_readmem.proofs.put_line.Goals as goal
+
+pub put_run-requires : goal.put_run-requires
+put_run-requires c =
+    let a = c.args in
+    let digits : line_digits a.kind a.count ≡ a.count = ap (λ (k : Readmem). line_digits k a.count) c.enum_told-1.given.1 in
+    (search rules, omega arith, omega (arith, line_digits_lem a.kind a.image.now a.bits a.from.0 a.count))
+
+pub put_hex_line-requires : goal.put_hex_line-requires
+unfolding ceil_div
+put_hex_line-requires c =
+    let a = c.args in
+    let digits : line_digits a.kind a.count ≡ (a.count + 3) / 4 = ap (λ (k : Readmem). line_digits k a.count) c.enum_told-in-Hex-1.given.1 in
+    (c.requires.0, omega (arith, line_digits_lem a.kind a.image.now a.bits a.from.0 a.count))
+
+pub returns-in-Binary : goal.returns-in-Binary
+unfolding line_text
+returns-in-Binary c = rw c.enum_told-1.given.1 c.put_run.ensures
+
+pub returns-in-Hex : goal.returns-in-Hex
+unfolding line_text
+returns-in-Hex c = rw c.enum_told-in-Hex-1.given.1 c.put_hex_line.ensures

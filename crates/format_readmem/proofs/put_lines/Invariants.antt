@@ -1,0 +1,17 @@
+use mathlib.Core.Path.{◌≡◌}
+use Prim.Native.Nat.{◌+◌, ◌-◌, ◌*◌, ◌≤◌}
+use lib.ListN.{length}
+use Rattle.output.specs.Pieces.{pieces}
+use Rattle.output.specs.Writes.{Writes}
+use Rattle.format_readmem.specs.Readmem.{line_at}
+use Rattle.format_readmem.proofs.put_lines.Given as goal
+
+abbrev pub invariant-loop-i : goal.invariant-loop-i
+invariant-loop-i l = (l.i ≤ l.lines)
+    × (l.first ≤ l.i)
+    × (l.offset ≡ l.i * l.width)
+    × Writes (pieces (λ k. line_at l.kind l.image l.bits l.width (l.first + k)) (l.i - l.first)) l.initial.out l.at l.out l.next
+    × (length l.out ≡ length l.initial.out)
+
+abbrev pub decreases-loop-i : goal.decreases-loop-i
+decreases-loop-i l = l.lines - l.i

@@ -1,0 +1,10 @@
+-- `hex_length::all_low` meets its contract: each block is far below the highest address.
+-- Assumes nothing.
+use borrow.Author.Tests.{ltb-true}
+use Rattle.hex_length.proofs.High.{blocks_small}
+use Rattle.hex_length.proofs.all_low.Goals as goal
+
+pub returns : goal.returns
+returns c e =
+    let a = c.args in
+    blocks_small a.unit a.offsets.now a.sizes.now c.joined-most.result c.requires.0 c.joined-most.ensures (ltb-true _ _ e)

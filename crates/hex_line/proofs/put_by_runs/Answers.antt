@@ -1,0 +1,20 @@
+-- `hex_line::put_by_runs` meets its contract: the short digit and the run of whole ones, one after the other.
+-- Assumes nothing.
+use Prim.Native.Nat.{◌%◌}
+use native.Mathlib.Omega.{arith}
+use borrow.Author.Rules.{rules}
+use Rattle.output.proofs.Writes.{writes_then}
+use Rattle.digits.specs.Run.{hex_line}
+use Rattle.digits.proofs.Run.{short_length}
+use Rattle.hex_line.proofs.put_by_runs.Goals as goal
+
+pub put_run-requires : goal.put_run-requires
+put_run-requires c =
+    let a = c.args in
+    let wrote = c.put_short-next.ensures.next in
+    (search rules, omega arith, omega (arith, short_length a.bytes.now a.len (a.count % 4) a.from.0))
+
+pub returns : goal.returns
+unfolding hex_line
+returns c =
+    writes_then c.put_short-next.ensures c.put_run.ensures

@@ -1,0 +1,44 @@
+-- `hex_records::put_shifted` meets its contract: after k turns k bytes are written and added.
+-- Assumes nothing.
+use Rattle.std.proofs.Common.{◌≡◌, ◌+◌, ◌-◌, ◌*◌, [], ◌∷◌, refl, arith, rules}
+use Rattle.bitvec.specs.Bits.{bits_at}
+use Rattle.numbers.specs.Digits.{byte_text}
+use Rattle.output.proofs.Writes.{writes_nothing, writes_then}
+use Rattle.hex_records.specs.Text.{bytes_from, total}
+use Rattle.hex_records.proofs.Sums.{total_append}
+use Rattle.hex_records.proofs.Text.{bytes_none, bytes_next, hex_none, hex_append, hex_one}
+use Rattle.hex_records.proofs.put_shifted.Goals as goal
+
+pub loop-k-init : goal.loop-k-init
+unfolding total
+loop-k-init c =
+    let a = c.args in (
+      search rules,
+      omega arith,
+      rw (bytes_none a.bytes.now a.len (a.first * 8 + a.shift)) (omega arith),
+      rw (bytes_none a.bytes.now a.len (a.first * 8 + a.shift), hex_none) (writes_nothing a.out.now a.at),
+      refl,
+    )
+
+pub loop-k-preserved : goal.loop-k-preserved
+unfolding byte_text total
+loop-k-preserved c =
+    let l = c.loop-k in
+    let a = c.args in
+    let from = a.first * 8 + a.shift in
+    let place : (a.first + l.k) * 8 + a.shift ≡ from + 8 * l.k = omega arith in
+    let byte : c.read_across-byte.result ≡ bits_at a.bytes.now a.len (from + 8 * l.k) 8 = rw place at c.read_across-byte.ensures in
+    let done = bytes_from a.bytes.now a.len from l.k in
+    let next = bytes_next a.bytes.now a.len from l.k in (
+      search rules,
+      omega (arith, c.put_byte-next.ensures.next),
+      rw (next, ← byte, total_append done (c.read_across-byte.result ∷ [])) (omega (arith, c.wrapping_add_u8-added.ensures)),
+      rw (next, ← byte, hex_append done (c.read_across-byte.result ∷ []), hex_one) (writes_then l.invariant.3 c.put_byte-next.ensures),
+      search rules,
+    )
+
+pub returns : goal.returns
+returns c =
+    let l = c.loop-k in
+    let done : l.k ≡ c.args.count = omega arith in
+    rw (← done) (l.invariant.2, l.invariant.3.stored)

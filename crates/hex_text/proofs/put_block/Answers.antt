@@ -1,0 +1,25 @@
+-- `hex_text::put_block` meets its contract: a block of one byte is one record.
+-- Assumes nothing.
+use Rattle.std.proofs.Common.{◌≤◌, [], ◌∷◌, length, ap, ◌∙◌, arith}
+use Rattle.blocks.specs.Blocks.{Block}
+use Rattle.ordering.specs.Lists.{Each}
+use Rattle.hex_records.specs.Plan.{Chunk}
+use Rattle.hex_records.proofs.Text.{record_length}
+use Rattle.hex_text.proofs.Single.{single, block_single, text_single}
+use Rattle.hex_text.proofs.put_block.Goals as goal
+
+pub put_single-requires : goal.put_single-requires
+put_single-requires c =
+    let a = c.args in
+    let is = c.is_single.ensures c.if-is_single.true in
+    let b : Block = record { offset = a.offset; size = a.size } in
+    let low : Each (λ (k : Chunk). k.address ≤ 65535) (single a.unit b ∷ []) = rw (block_single a.unit b is.1 is.2) at c.requires.low in
+    let size = ap length (text_single a.bytes.now a.len a.unit b is.1 is.2) ∙ record_length a.bytes.now a.len (single a.unit b) in
+    let within = c.requires.lent.0 a.offset is.0 in record { inside = (c.requires.lent.1 (omega (arith, is.0)), within.0, within.1); room = (rw c.address_of-address.ensures low.0, omega (arith, size, c.requires.room)) }
+
+pub returns-then-is_single : goal.returns-then-is_single
+returns-then-is_single c =
+    let a = c.args in
+    let is = c.is_single.ensures c.if-is_single.true in
+    let b : Block = record { offset = a.offset; size = a.size } in
+    rw (text_single a.bytes.now a.len a.unit b is.1 is.2, ← c.address_of-address.ensures) c.put_single.ensures

@@ -1,0 +1,14 @@
+use Rattle.std.proofs.Common.{◌≡◌, ◌-◌, ◌≤◌, length}
+use Rattle.output.specs.Pieces.{pieces}
+use Rattle.output.specs.Writes.{Writes}
+use Rattle.hex_records.specs.Plan.{chunk_at}
+use Rattle.hex_records.specs.Text.{record_text}
+use Rattle.hex_text.proofs.put_records.Given as goal
+
+abbrev pub invariant-loop-n : goal.invariant-loop-n
+invariant-loop-n l = (l.n ≤ l.records)
+    × Writes (pieces (λ l.n. record_text l.bytes l.len (chunk_at l.unit (record { l.offset = l.offset; l.size = l.size }) l.n)) l.n) l.initial.out l.at l.out l.next
+    × (length l.out ≡ length l.initial.out)
+
+abbrev pub decreases-loop-n : goal.decreases-loop-n
+decreases-loop-n l = l.records - l.n

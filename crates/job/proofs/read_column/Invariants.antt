@@ -1,0 +1,13 @@
+use mathlib.Core.Path.{◌≡◌}
+use Prim.Native.Nat.{◌+◌, ◌-◌, ◌*◌, ◌≤◌}
+use lib.ListN.{length}
+use lib.Seq.{sets}
+use Rattle.ordering.specs.Lists.{table}
+use Rattle.job.specs.Job.{word}
+use Rattle.job.proofs.read_column.Given as goal
+
+abbrev pub invariant-loop-k : goal.invariant-loop-k
+invariant-loop-k l = (l.k ≤ length l.initial.to) × (l.to ≡ sets l.initial.to 0 (table (λ l.k. word l.job (l.at + 8 * l.k)) l.k)) × (length l.to ≡ length l.initial.to)
+
+abbrev pub decreases-loop-k : goal.decreases-loop-k
+decreases-loop-k l = length l.initial.to - l.k

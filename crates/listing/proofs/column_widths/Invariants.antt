@@ -1,0 +1,16 @@
+use mathlib.Core.Path.{◌≡◌}
+use Prim.Native.Nat.{◌-◌, ◌≤◌}
+use lib.ListN.{length}
+use Rattle.listing.specs.Listing.{widths_of}
+use Rattle.listing.proofs.column_widths.Given as goal
+
+abbrev pub invariant-loop-p : goal.invariant-loop-p
+invariant-loop-p l = (l.p ≤ length l.offsets)
+    × (l.widths ≡ widths_of l.options l.offsets l.sizes l.addrs l.p)
+    × (l.widths.outp ≤ 64)
+    × (l.widths.outp_bit ≤ 64)
+    × (l.widths.addr ≤ 64)
+    × (l.widths.content ≤ 324)
+
+abbrev pub decreases-loop-p : goal.decreases-loop-p
+decreases-loop-p l = length l.offsets - l.p

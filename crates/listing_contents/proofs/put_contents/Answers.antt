@@ -1,0 +1,26 @@
+-- `listing_contents::put_contents` meets its contract: pairs of digits within the image, or whatever they are.
+-- Assumes nothing.
+use native.Mathlib.Omega.{arith}
+use Rattle.bitvec.proofs.Size.{ceil_most}
+use Rattle.listing_contents.proofs.Pairs.{paired_contents}
+use Rattle.listing_contents.proofs.put_contents.Goals as goal
+
+pub pairs_inside-requires : goal.pairs_inside-requires
+pairs_inside-requires c =
+    let size = c.args.size in
+    (omega arith, omega (arith, c.parts-count.ensures, ceil_most size 4 (omega arith)))
+
+pub put_pairs-requires : goal.put_pairs-requires
+put_pairs-requires c =
+    let a = c.args in
+    let kind = c.paired.ensures c.if-paired.true in
+    let inside = c.pairs_inside.ensures c.if-pairs_inside.true in
+    let same = paired_contents a.options a.image.now a.bits a.offset a.size kind.0 kind.1 in
+    record { inside = (omega arith, inside.0, inside.1, inside.2); room = rw (c.parts-count.ensures, ← same) c.requires.1 }
+
+pub returns-then-pairs_inside : goal.returns-then-pairs_inside
+returns-then-pairs_inside c =
+    let a = c.args in
+    let kind = c.paired.ensures c.if-paired.true in
+    let same = paired_contents a.options a.image.now a.bits a.offset a.size kind.0 kind.1 in
+    rw (same, ← c.parts-count.ensures) c.put_pairs.ensures

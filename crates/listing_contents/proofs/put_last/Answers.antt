@@ -1,0 +1,20 @@
+-- `listing_contents::put_last` meets its contract: a run, or digit by digit.
+-- Assumes nothing.
+use mathlib.Core.Path.{ap}
+use native.Mathlib.Omega.{arith}
+use lib.ListN.{length}
+use Rattle.digits.proofs.Run.{run_length}
+use Rattle.listing_contents.proofs.Groups.{group_run}
+use Rattle.listing_contents.proofs.put_last.Goals as goal
+
+pub put_run-requires : goal.put_run-requires
+put_run-requires c =
+    let a = c.args in
+    let same = group_run a.image.now a.bits a.width a.group a.from.0 a.count (omega (arith, c.if-group-count.false)) (omega (arith, c.if-bits-start.false)) in
+    (c.requires.small.0, c.requires.small.2, omega (arith, ap length same, run_length a.image.now a.bits a.width a.from.0 a.count, c.requires.room))
+
+pub returns : goal.returns
+returns c =
+    let a = c.args in
+    let same = group_run a.image.now a.bits a.width a.group a.from.0 a.count (omega (arith, c.if-group-count.false)) (omega (arith, c.if-bits-start.false)) in
+    rw same c.put_run.ensures

@@ -1,0 +1,51 @@
+-- `listing_contents::put_shifted` meets its contract: after k turns k groups are written.
+-- Assumes nothing.
+use mathlib.Core.Path.{◌≡◌, refl}
+use Prim.Native.Nat.{◌+◌, ◌-◌, ◌*◌, ◌≤◌}
+use native.Mathlib.Omega.{arith}
+use lib.ListN.{length}
+use borrow.Author.Rules.{rules}
+use Rattle.output.proofs.Writes.{writes_nothing, writes_then, writes_length}
+use Rattle.rows.specs.Rows.{digits_per_byte, digit_bits}
+use Rattle.output.proofs.Order.{stride}
+use Rattle.rows.proofs.Rows.{byte_length}
+use Rattle.listing_contents.proofs.Groups.{groups_none, groups_length, shifted_next}
+use Rattle.listing_contents.proofs.put_shifted.Goals as goal
+
+pub loop-k-init : goal.loop-k-init
+loop-k-init c = (search rules, rw (groups_none _ _ _ _ _) (writes_nothing _ _), refl)
+
+pub overflow_add-first : goal.overflow_add-first
+overflow_add-first c = omega (arith, c.requires.inside)
+
+pub put_digits-next-requires : goal.put_digits-next-requires
+put_digits-next-requires c =
+    let room : c.loop-k.next + (digits_per_byte c.args.kind + 1) ≤ length c.loop-k.out = let l = c.loop-k in
+    let a = c.args in
+    omega
+    (arith, l.invariant.1.next, groups_length a.image.now a.bits (digit_bits a.kind) (digits_per_byte a.kind) (a.first * 8 + a.shift) l.k, stride l.k a.count (digits_per_byte a.kind + 1) c.loop-k-test.true, c.requires.room) in
+    omega (arith, room)
+
+pub put-next-requires : goal.put-next-requires
+put-next-requires c =
+    let room : c.loop-k.next + (digits_per_byte c.args.kind + 1) ≤ length c.loop-k.out = let l = c.loop-k in
+    let a = c.args in
+    omega
+    (arith, l.invariant.1.next, groups_length a.image.now a.bits (digit_bits a.kind) (digits_per_byte a.kind) (a.first * 8 + a.shift) l.k, stride l.k a.count (digits_per_byte a.kind + 1) c.loop-k-test.true, c.requires.room) in
+    let a = c.args in
+    omega (arith, room, c.put_digits-next.ensures.next, writes_length c.put_digits-next.ensures, byte_length a.kind c.read_across-byte.result)
+
+pub loop-k-preserved : goal.loop-k-preserved
+loop-k-preserved c =
+    let l = c.loop-k in
+    let a = c.args in (
+      search rules,
+      rw (shifted_next a.kind a.image.now a.bits a.first a.shift l.k, ← c.read_across-byte.ensures)
+          (writes_then l.invariant.1 (writes_then c.put_digits-next.ensures c.put-next.ensures)),
+      omega (arith, l.invariant.2, writes_length c.put_digits-next.ensures, writes_length c.put-next.ensures),
+    )
+
+pub returns : goal.returns
+returns c =
+    let done : c.loop-k.k ≡ c.args.count = omega arith in
+    rw done at c.loop-k.invariant.1

@@ -1,0 +1,29 @@
+-- `listing_spans::span_fault` meets its contract: no span before place p has a fault.
+-- Assumes nothing.
+use mathlib.Core.Path.{◌≡◌, sym, ◌∙◌}
+use mathlib.Core.Bool.{false}
+use Prim.Native.Nat.{◌-◌}
+use native.Mathlib.Omega.{arith}
+use lib.ListN.{length}
+use borrow.Author.Count.{below_none, below_more}
+use Rattle.ordering.proofs.Lists.{first_at, first_all}
+use Rattle.listing_spans.specs.Faults.{faulty, span_fault}
+use borrow.Author.Rules.{rules}
+use Rattle.listing_spans.proofs.span_fault.Goals as goal
+
+pub loop-p-init : goal.loop-p-init
+loop-p-init c = (search rules, below_none _)
+
+pub returns-then-faulty : goal.returns-then-faulty
+unfolding span_fault
+returns-then-faulty c = λ addrs. sym (first_at _ (length c.args.offsets.now) c.loop-p.p (omega arith) c.loop-p.invariant.1 (sym c.faulty.ensures ∙ c.if-faulty.true))
+
+pub loop-p-preserved : goal.loop-p-preserved
+loop-p-preserved c = (search rules, below_more _ c.loop-p.p c.loop-p.invariant.1 (sym c.faulty.ensures ∙ c.if-faulty.false))
+
+pub returns : goal.returns
+unfolding span_fault
+returns c =
+    let l = c.loop-p in
+    let done : l.p ≡ length c.args.offsets.now = omega arith in
+    λ addrs. sym (first_all _ _ (rw (← done) l.invariant.1))

@@ -1,0 +1,60 @@
+-- `numbers::put_decimal` meets its contract: what the three stores leave is the number.
+-- Assumes nothing.
+use mathlib.Core.Path.{◌≡◌, ◌∙◌}
+use Prim.Native.Nat.{◌+◌, ◌-◌, ◌*◌, ◌/◌, ◌%◌, ◌≤◌}
+use native.Mathlib.Omega.{arith}
+use lib.ListN.{length-set}
+use Rattle.numbers.specs.Digits.{digit_count}
+use Rattle.numbers.proofs.Digits.{count_some, number_length}
+use Rattle.numbers.proofs.Decimal.{three_stored, tens_place, ones_place, digit_small}
+use Rattle.numbers.proofs.put_decimal.Goals as goal
+
+pub overflow_add-middle : goal.overflow_add-middle
+overflow_add-middle c =
+    let middle : c.above.result ≡ digit_count 10 c.args.byte - 2 = c.above.ensures ∙ tens_place c.args.byte (omega arith) in
+    omega (arith, middle)
+
+pub overflow_add-last : goal.overflow_add-last
+overflow_add-last c =
+    let last : c.above.result + c.above-2.result ≡ digit_count 10 c.args.byte - 1 = rw (c.above.ensures, c.above-2.ensures) (ones_place c.args.byte (omega arith)) in
+    omega (arith, last)
+
+pub bounds-out-at : goal.bounds-out-at
+bounds-out-at c =
+    let some : 1 ≤ digit_count 10 c.args.byte = count_some 10 c.args.byte (omega arith) in
+    omega (arith, some)
+
+pub bounds-out-middle : goal.bounds-out-middle
+bounds-out-middle c =
+    let middle : c.above.result ≡ digit_count 10 c.args.byte - 2 = c.above.ensures ∙ tens_place c.args.byte (omega arith) in
+    let some : 1 ≤ digit_count 10 c.args.byte = count_some 10 c.args.byte (omega arith) in
+    simp length-set (omega (arith, middle, some))
+
+pub bounds-out-last : goal.bounds-out-last
+bounds-out-last c =
+    let last : c.above.result + c.above-2.result ≡ digit_count 10 c.args.byte - 1 = rw (c.above.ensures, c.above-2.ensures) (ones_place c.args.byte (omega arith)) in
+    let some : 1 ≤ digit_count 10 c.args.byte = count_some 10 c.args.byte (omega arith) in
+    simp length-set (omega (arith, last, some))
+
+pub overflow_add-result : goal.overflow_add-result
+overflow_add-result c =
+    let last : c.above.result + c.above-2.result ≡ digit_count 10 c.args.byte - 1 = rw (c.above.ensures, c.above-2.ensures) (ones_place c.args.byte (omega arith)) in
+    let some : 1 ≤ digit_count 10 c.args.byte = count_some 10 c.args.byte (omega arith) in
+    omega (arith, last, some)
+
+pub returns : goal.returns
+returns c =
+    let last : c.above.result + c.above-2.result ≡ digit_count 10 c.args.byte - 1 = rw (c.above.ensures, c.above-2.ensures) (ones_place c.args.byte (omega arith)) in
+    let some : 1 ≤ digit_count 10 c.args.byte = count_some 10 c.args.byte (omega arith) in
+    let middle : c.above.result ≡ digit_count 10 c.args.byte - 2 = c.above.ensures ∙ tens_place c.args.byte (omega arith) in
+    let a = c.args in
+    let b = a.byte in
+    let place : a.at + c.above.result + c.above-2.result ≡ a.at + (digit_count 10 b - 1) = omega (arith, last) in
+    let tens : b / 10 - b / 100 * 10 ≡ b / 10 % 10 = omega arith in
+    let ones : b - b / 10 * 10 ≡ b % 10 = omega arith in
+    record {
+      next = rw number_length (omega (arith, last, some));
+      stored =
+          rw (place, middle, tens, ones, ← digit_small (b / 100) (omega arith), ← digit_small (b / 10 % 10) (omega arith), ← digit_small (b % 10) (omega arith))
+          (three_stored a.out.now a.at b (omega arith));
+    }

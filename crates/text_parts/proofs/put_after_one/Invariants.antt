@@ -1,0 +1,13 @@
+use mathlib.Core.Path.{◌≡◌}
+use mathlib.Core.List.{[], ◌∷◌}
+use Prim.Native.Nat.{◌-◌, ◌≤◌}
+use lib.ListN.{length}
+use Rattle.output.specs.Writes.{Writes}
+use Rattle.text_parts.specs.Parts.{headed_text}
+use Rattle.text_parts.proofs.put_after_one.Given as goal
+
+abbrev pub invariant-loop-k : goal.invariant-loop-k
+invariant-loop-k l = (l.k ≤ l.count) × Writes (headed_text l.s l.size l.first (l.head ∷ []) l.k) l.initial.out l.at l.out l.next × (length l.out ≡ length l.initial.out)
+
+abbrev pub decreases-loop-k : goal.decreases-loop-k
+decreases-loop-k l = l.count - l.k
