@@ -2,7 +2,7 @@
 -- Assumes nothing.
 use mathlib.Core.Path.{◌≡◌, refl, ap, ◌∙◌}
 use mathlib.Core.Bool.{Bool, true, false, cond}
-use mathlib.Core.List.{List, [], ◌∷◌, ◌++◌, map, map_append}
+use mathlib.Core.List.{List, [], ◌∷◌, ◌++◌, map, map-append}
 use Prim.Native.Nat.{ℕ, zero, suc, ◌+◌, ◌/◌, ◌%◌, ◌^◌, ◌≤◌, ◌<◌, ◌-◌, max}
 use native.Mathlib.Omega.{arith}
 use native.Mathlib.Nat.{mul-one, pow-suc, div-lt_self, div-lt_iff_lt-mul, div-eq_of_lt, mod-eq_of_lt, lt_of_lt_of_le, mul-le-mul_left, le-div_iff_mul-le, div-mul-le_self}
@@ -87,7 +87,7 @@ pub number_more : (letters : Letters) (radix n : ℕ) → 2 ≤ radix → radix 
     → number_text letters radix n ≡ number_text letters radix (n / radix) ++ (digit_char letters (n % radix) ∷ [])
 unfolding number_text
 number_more letters radix n h l =
-    ap (map (digit_char letters)) (digits_more radix n h l) ∙ map_append (digit_char letters) (digits radix (n / radix)) (n % radix ∷ [])
+    ap (map (digit_char letters)) (digits_more radix n h l) ∙ map-append (digit_char letters) (digits radix (n / radix)) (n % radix ∷ [])
 
 -- A byte as two digits is the number in radix 16, filled with zeros to width 2: the Rust's `{:02x}` and `{:02X}`.
 pub byte_padded : (letters : Letters) (b : ℕ) → b < 256 → byte_text letters b ≡ padded 48 2 (number_text letters 16 b)

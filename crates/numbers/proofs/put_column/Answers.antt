@@ -81,7 +81,7 @@ returns c =
     omega (arith, length-replicate (a.width - length text) a.fill) in
     record {
       next = omega (arith, padded_length a.fill a.width text);
-      c =
+      stored =
           c.put_fill.ensures.stored
           ∙ ap (λ (m : List ℕ). sets m a.at (replicate (c.loop-rest.place - a.at) a.fill)) number
           ∙ rw (filled, place) (sets_earlier (replicate (a.width - length text) a.fill) text a.out.now a.at);
