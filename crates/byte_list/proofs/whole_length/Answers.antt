@@ -32,7 +32,7 @@ pub loop-k-preserved : goal.loop-k-preserved
 loop-k-preserved c =
     let measured : (let a = c.args in length (item a.image.now a.bits c.loop-k.k) ≡ c.decimal_count-total.result) = let k = c.loop-k.k in
     let a = c.args in
-    lengths.decimal-length _
+    lengths.decimal_length _
     ∙ rw (byte_whole a.image.now a.bits k (omega arith) (c.type_inv.image k).fits) (sym c.decimal_count-total.ensures) in
     let small : c.decimal_count-total.result ≤ 8 = let k = c.loop-k.k in
     omega (arith, c.decimal_count-total.ensures, count_small 10 (omega arith) 7 _ (c.type_inv.image k).fits) in

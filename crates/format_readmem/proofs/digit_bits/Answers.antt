@@ -9,7 +9,7 @@ returns-then-width-gt128 c = (omega arith, λ h. absurd (omega arith))
 
 pub returns-in-Binary : goal.returns-in-Binary
 returns-in-Binary c =
-    (omega arith, λ h. rw c.enum_told-1.given.1 (runs_binary c.args.width c.requires (omega (arith, c.if-width-gt128.false))))
+    (omega arith, λ h. rw c.in-Binary.is (runs_binary c.args.width c.requires (omega (arith, c.if-width-gt128.false))))
 
 pub returns-in-Hex : goal.returns-in-Hex
-returns-in-Hex c = rw c.enum_told-in-Hex-1.given.1 c.hex_bits.ensures
+returns-in-Hex c = rw c.in-Hex.is c.hex_bits.ensures

@@ -8,11 +8,11 @@ use Rattle.format_readmem.proofs.line_length.Goals as goal
 pub returns-in-Binary : goal.returns-in-Binary
 returns-in-Binary c bytes len i =
     let a = c.args in
-    line_digits_lem a.kind bytes len i a.count ∙ ap (λ (k : Readmem). line_digits k a.count) c.enum_told-1.given.1
+    line_digits_lem a.kind bytes len i a.count ∙ ap (λ (k : Readmem). line_digits k a.count) c.in-Binary.is
 
 pub returns-in-Hex : goal.returns-in-Hex
 returns-in-Hex c bytes len i =
     let a = c.args in
     line_digits_lem a.kind bytes len i a.count
-    ∙ ap (λ (k : Readmem). line_digits k a.count) c.enum_told-in-Hex-1.given.1
+    ∙ ap (λ (k : Readmem). line_digits k a.count) c.in-Hex.is
     ∙ sym c.parts.ensures

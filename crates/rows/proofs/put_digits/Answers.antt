@@ -6,15 +6,15 @@ use Rattle.rows.specs.Rows.{digits_per_byte, byte_digits}
 use Rattle.rows.proofs.put_digits.Goals as goal
 
 pub put_bits-requires : goal.put_bits-requires
-put_bits-requires c = omega (arith, ap digits_per_byte c.enum_told-1.given.1, c.requires)
+put_bits-requires c = omega (arith, ap digits_per_byte c.in-Binary.is, c.requires)
 
 pub put_byte-requires : goal.put_byte-requires
-put_byte-requires c = omega (arith, ap digits_per_byte c.enum_told-in-Hex-1.given.1, c.requires)
+put_byte-requires c = omega (arith, ap digits_per_byte c.in-Hex.is, c.requires)
 
 pub returns-in-Binary : goal.returns-in-Binary
 unfolding byte_digits
-returns-in-Binary c = rw c.enum_told-1.given.1 c.put_bits.ensures
+returns-in-Binary c = rw c.in-Binary.is c.put_bits.ensures
 
 pub returns-in-Hex : goal.returns-in-Hex
 unfolding byte_digits
-returns-in-Hex c = rw c.enum_told-in-Hex-1.given.1 c.put_byte.ensures
+returns-in-Hex c = rw c.in-Hex.is c.put_byte.ensures

@@ -8,7 +8,7 @@ pub put_singles-requires : goal.put_singles-requires
 put_singles-requires c =
     let one = c.if-width-eq1.true in
     let pre = c.requires in
-    record { inside = rw (one, mul-one) at pre.0; room = rw (one, one-mul) at pre.1 }
+    record { inside = rw (one, mul-one) at pre.inside; room = rw (one, one-mul) at pre.room }
 
 pub returns-then-width-eq1 : goal.returns-then-width-eq1
 returns-then-width-eq1 c = rw c.if-width-eq1.true c.put_singles.ensures
@@ -16,7 +16,7 @@ returns-then-width-eq1 c = rw c.if-width-eq1.true c.put_singles.ensures
 pub put_pairs-requires : goal.put_pairs-requires
 put_pairs-requires c =
     let pre = c.requires in
-    record { inside = rw c.if-width-eq2.true at pre.0; room = rw (c.if-width-eq2.true, c.if-tail-eq1.true) at pre.1 }
+    record { inside = rw c.if-width-eq2.true at pre.inside; room = rw (c.if-width-eq2.true, c.if-tail-eq1.true) at pre.room }
 
 pub returns-then-width-eq2 : goal.returns-then-width-eq2
 returns-then-width-eq2 c =
@@ -26,7 +26,7 @@ returns-then-width-eq2 c =
 pub put_fours-requires : goal.put_fours-requires
 put_fours-requires c =
     let pre = c.requires in
-    record { inside = rw c.if-width-eq4.true at pre.0; room = rw (c.if-width-eq4.true, c.if-tail-eq1.true) at pre.1 }
+    record { inside = rw c.if-width-eq4.true at pre.inside; room = rw (c.if-width-eq4.true, c.if-tail-eq1.true) at pre.room }
 
 pub returns-then-width-eq4 : goal.returns-then-width-eq4
 returns-then-width-eq4 c =

@@ -6,7 +6,7 @@ use Rattle.rows.proofs.put_singles.Goals as goal
 pub put_ones-requires : goal.put_ones-requires
 put_ones-requires c =
     let pre = c.requires in
-    record { inside = pre.0; room = rw c.if-tail-eq1.true at pre.1 }
+    record { inside = pre.inside; room = rw c.if-tail-eq1.true at pre.room }
 
 pub returns-then-tail-eq1 : goal.returns-then-tail-eq1
 returns-then-tail-eq1 c =
@@ -15,7 +15,7 @@ returns-then-tail-eq1 c =
 pub put_twos-requires : goal.put_twos-requires
 put_twos-requires c =
     let pre = c.requires in
-    record { inside = pre.0; room = rw c.if-tail-eq2.true at pre.1 }
+    record { inside = pre.inside; room = rw c.if-tail-eq2.true at pre.room }
 
 pub returns-then-tail-eq2 : goal.returns-then-tail-eq2
 returns-then-tail-eq2 c =

@@ -7,21 +7,21 @@ use Rattle.rows.proofs.Rows.{two_text}
 use Rattle.rows.proofs.put_two.Goals as goal
 
 pub put_two_bits-requires : goal.put_two_bits-requires
-put_two_bits-requires c = rw c.enum_told-1.given.1 at c.requires.room
+put_two_bits-requires c = rw c.in-Binary.is at c.requires.room
 
 pub put_pair-requires : goal.put_pair-requires
-put_pair-requires c = rw c.enum_told-in-Hex-1.given.1 at c.requires.room
+put_pair-requires c = rw c.in-Hex.is at c.requires.room
 
 pub returns-in-Binary : goal.returns-in-Binary
 unfolding byte_digits
 returns-in-Binary c =
     let a = c.args in
-    rw (c.enum_told-1.given.1, two_text Binary a.bytes.now a.len a.place c.requires.inside.0 (c.shared_slice_known-2-1.given a.place).fits (c.type_inv.bytes (a.place + 1)).fits)
+    rw (c.in-Binary.is, two_text Binary a.bytes.now a.len a.place c.requires.inside.0 (c.shared_slice_known-2-1.given a.place).fits (c.type_inv.bytes (a.place + 1)).fits)
     c.put_two_bits.ensures
 
 pub returns-in-Hex : goal.returns-in-Hex
 unfolding byte_digits
 returns-in-Hex c =
     let a = c.args in
-    rw (c.enum_told-in-Hex-1.given.1, two_text Hex a.bytes.now a.len a.place c.requires.inside.0 (c.shared_slice_known-2-1.given a.place).fits (c.type_inv.bytes (a.place + 1)).fits)
+    rw (c.in-Hex.is, two_text Hex a.bytes.now a.len a.place c.requires.inside.0 (c.shared_slice_known-2-1.given a.place).fits (c.type_inv.bytes (a.place + 1)).fits)
     c.put_pair.ensures
