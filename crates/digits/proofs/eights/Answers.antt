@@ -23,5 +23,5 @@ returns c =
     let rest = c.smaller-whole.result - (a.first + 8) in
     let words = mul-le-mul_right a.width (le_of_eq_min c.smaller.result (a.count / 8) (rest / a.width) most) in
     let held = div-mul-le_self rest a.width in
-    let left = c.if-whole-first.left in
-    (omega (arith, most), λ h. (omega (arith, words, held, whole, left), omega (arith, words, held, whole, left), omega (arith, c.if-width-lt1.left)))
+    let left = c.if-whole-first.false in
+    (omega (arith, most), λ h. (omega (arith, words, held, whole, left), omega (arith, words, held, whole, left), omega (arith, c.if-width-lt1.false)))
