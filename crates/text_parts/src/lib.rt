@@ -1,6 +1,7 @@
 // A text cut into parts of one size, with a character behind or a text before each: digits that were made at once and
 // are written in lines, chunks or groups.
 #![tactic(auto)]
+
 ghost use Rattle.std.specs.Prelude.{[], ◌∷◌, ◌+◌, ◌*◌, ◌≤◌, ◌<◌, length, take, drop};
 ghost use Rattle.output.specs.Writes.{Writes};
 ghost use Rattle.text_parts.specs.Parts.{parts_text, headed_text};

@@ -2,7 +2,7 @@
 -- Assumes nothing.
 use mathlib.Core.Path.{◌≡◌, refl}
 use mathlib.Core.List.{[], ◌∷◌}
-use Prim.Native.Nat.{◌+◌, ◌-◌, ◌*◌, ◌≤◌}
+use Prim.Native.Nat.{◌+◌, ◌*◌, ◌≤◌}
 use native.Mathlib.Omega.{arith}
 use lib.ListN.{length}
 use borrow.Author.Rules.{rules}
@@ -55,8 +55,7 @@ put_part-next-requires c =
     let a = c.args in
     let fewer : (a.first + l.k) * a.size ≤ length a.s.now = omega (arith, inside) in
     omega
-    (arith, l.invariant.1.next, headed_length a.s.now a.size a.first (a.head ∷ a.head2 ∷ []) l.k fewer, stride l.k a.count (2 + a.size) c.loop-k-test.true, c.requires.2) in
-    (
+    (arith, l.invariant.1.next, headed_length a.s.now a.size a.first (a.head ∷ a.head2 ∷ []) l.k fewer, stride l.k a.count (2 + a.size) c.loop-k-test.true, c.requires.2) in (
       inside,
       omega (arith, room, c.put-next.ensures.next, writes_length c.put-next.ensures, c.put-next-in-loop-k.ensures.next, writes_length c.put-next-in-loop-k.ensures),
     )
