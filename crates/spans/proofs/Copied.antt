@@ -25,16 +25,23 @@ zeros_length = length-replicate {A = ℕ} 4097 0
 pub copied_length : (w : Span → ℕ) (xs : List Span) (i : ℕ) → length (sets zeros 0 (take i (map w xs))) ≡ 4097
 copied_length w xs i = length-sets zeros 0 (take i (map w xs)) ∙ zeros_length
 
--- The number of a record in a list.
+-- The number of a record in a list, whatever record stands past its end.
+number_in : (w : Span → ℕ) (xs : List Span) (i : ℕ) (d : Span) → i < length xs → w (get_or xs i d) ≡ get_or (map w xs) i 0
+number_in w [] i d l = absurd (not-suc-le-zero l)
+number_in w (x ∷ xs) zero d l = refl
+number_in w (x ∷ xs) (suc i) d l = number_in w xs i d (le_of_suc-le-suc l)
+
 pub number_at : (w : Span → ℕ) (xs : List Span) (i : ℕ) → i < length xs → w (get_or xs i no_span) ≡ get_or (map w xs) i 0
-number_at w [] i l = absurd (not-suc-le-zero l)
-number_at w (x ∷ xs) zero l = refl
-number_at w (x ∷ xs) (suc i) l = number_at w xs i (le_of_suc-le-suc l)
+number_at w xs i l = number_in w xs i no_span l
 
 -- One record more is copied.
+pub copied_in : (w : Span → ℕ) (xs : List Span) (i : ℕ) (d : Span) → i < length xs
+    → set (sets zeros 0 (take i (map w xs))) i (w (get_or xs i d)) ≡ sets zeros 0 (take (i + 1) (map w xs))
+copied_in w xs i d l = ap (set (sets zeros 0 (take i (map w xs))) i) (number_in w xs i d l) ∙ sets_copied zeros (map w xs) i (omega (arith, map_length w xs))
+
 pub copied : (w : Span → ℕ) (xs : List Span) (i : ℕ) → i < length xs
     → set (sets zeros 0 (take i (map w xs))) i (w (get_or xs i no_span)) ≡ sets zeros 0 (take (i + 1) (map w xs))
-copied w xs i l = ap (set (sets zeros 0 (take i (map w xs))) i) (number_at w xs i l) ∙ sets_copied zeros (map w xs) i (omega (arith, map_length w xs))
+copied w xs i l = copied_in w xs i no_span l
 
 -- The first k, where no more are there than n.
 pub take_most : {A : Type 0} (l : List A) (k n : ℕ) → length l ≡ n → take (min k n) l ≡ take k l

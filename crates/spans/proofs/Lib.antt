@@ -1,4 +1,3 @@
 pub mod Copied
 pub mod Few
-pub mod Local
 pub mod Meaning

@@ -1,6 +1,7 @@
 // The span record (document 01, "What an exporter is lent"; the Rust's `BitVecSpan`), and the records
 // of a slice as columns of numbers, which is how the core takes them.
 #![tactic(auto)]
+
 ghost use Rattle.std.specs.Prelude.{◌≡◌, min};
 ghost use Rattle.spans.specs.Copies.{columns_of, listing_columns_of};
 ghost use Rattle.spans.specs.Spans.{offset_number, start_number, end_number, offset_from, location_from};
