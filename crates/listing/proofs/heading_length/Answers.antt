@@ -6,7 +6,7 @@ use Rattle.listing.proofs.Columns.{good, heading_parts}
 use Rattle.listing.proofs.heading_length.Goals as goal
 
 pub title_length-requires : goal.title_length-requires
-title_length-requires c = (good c.args.options c.requires.0).radix-most
+title_length-requires c = (good c.args.options c.requires.0).radix_most
 
 pub overflow_add-result : goal.overflow_add-result
 overflow_add-result c = record { fits = omega (arith, c.larger-outp.ensures, c.requires.1) }

@@ -40,7 +40,7 @@ put_title-next-requires c =
     let room : (let w = c.args.widths in 21 + max (w.outp + w.outp_bit + 1) 4 + max w.addr (length (addr_title c.args.options.addr_base)) + digit_count 10 c.args.options.base ≤ length c.args.out.now) = omega (arith, heading_parts c.args.options c.args.widths, c.requires.2) in
     let behind_outp : (let w = c.args.widths in c.put_right-next.result ≡ 1 + max (w.outp + w.outp_bit + 1) 4) = let w = c.args.widths in
     omega (arith, c.put_right-next.ensures.next, c.put-next.ensures.next, padded_length 32 (w.outp + w.outp_bit + 1) (ascii "outp")) in
-    ((good c.args.options c.requires.0).radix-most, omega (arith, room, behind_outp, c.put_all-next.ensures.next))
+    ((good c.args.options c.requires.0).radix_most, omega (arith, room, behind_outp, c.put_all-next.ensures.next))
 
 pub put_all-next-requires-2 : goal.put_all-next-requires-2
 put_all-next-requires-2 c =

@@ -26,18 +26,18 @@ put_fill-next-requires c = omega (arith, c.free-free.ensures, c.title_length.ens
 
 pub put_all-next-requires : goal.put_all-next-requires
 put_all-next-requires c =
-    let room : c.put_fill-next.result + length (addr_title c.args.addr-base) ≤ length c.put_fill-next.new.out = omega (arith, c.put_fill-next.ensures.next, c.free-free.ensures, c.title_length.ensures.0, c.requires.1, length-replicate {A = ℕ} c.free-free.result 32) in
-    omega (arith, room, title_other_length c.args.addr-base c.if-addr_base-eq16.false)
+    let room : c.put_fill-next.result + length (addr_title c.args.addr_base) ≤ length c.put_fill-next.new.out = omega (arith, c.put_fill-next.ensures.next, c.free-free.ensures, c.title_length.ensures.0, c.requires.1, length-replicate {A = ℕ} c.free-free.result 32) in
+    omega (arith, room, title_other_length c.args.addr_base c.if-addr_base-eq16.false)
 
 pub put_number-next-requires : goal.put_number-next-requires
 put_number-next-requires c =
-    let room : c.put_fill-next.result + length (addr_title c.args.addr-base) ≤ length c.put_fill-next.new.out = omega (arith, c.put_fill-next.ensures.next, c.free-free.ensures, c.title_length.ensures.0, c.requires.1, length-replicate {A = ℕ} c.free-free.result 32) in
-    (omega arith, omega arith, omega (arith, room, c.put_all-next.ensures.next, title_other_length c.args.addr-base c.if-addr_base-eq16.false))
+    let room : c.put_fill-next.result + length (addr_title c.args.addr_base) ≤ length c.put_fill-next.new.out = omega (arith, c.put_fill-next.ensures.next, c.free-free.ensures, c.title_length.ensures.0, c.requires.1, length-replicate {A = ℕ} c.free-free.result 32) in
+    (omega arith, omega arith, omega (arith, room, c.put_all-next.ensures.next, title_other_length c.args.addr_base c.if-addr_base-eq16.false))
 
 pub put_all-requires : goal.put_all-requires
 put_all-requires c =
-    let room : c.put_fill-next.result + length (addr_title c.args.addr-base) ≤ length c.put_fill-next.new.out = omega (arith, c.put_fill-next.ensures.next, c.free-free.ensures, c.title_length.ensures.0, c.requires.1, length-replicate {A = ℕ} c.free-free.result 32) in
-    omega (arith, room, c.put_all-next.ensures.next, c.put_number-next.ensures.next, number_length Lower 10 c.args.addr-base, title_other_length c.args.addr-base c.if-addr_base-eq16.false)
+    let room : c.put_fill-next.result + length (addr_title c.args.addr_base) ≤ length c.put_fill-next.new.out = omega (arith, c.put_fill-next.ensures.next, c.free-free.ensures, c.title_length.ensures.0, c.requires.1, length-replicate {A = ℕ} c.free-free.result 32) in
+    omega (arith, room, c.put_all-next.ensures.next, c.put_number-next.ensures.next, number_length Lower 10 c.args.addr_base, title_other_length c.args.addr_base c.if-addr_base-eq16.false)
 
 pub returns : goal.returns
 unfolding padded

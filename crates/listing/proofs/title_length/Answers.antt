@@ -12,10 +12,10 @@ returns-then-addr_base-eq16 c = (sym (ap length (title_16 _ c.if-addr_base-eq16.
 
 pub overflow_add-result : goal.overflow_add-result
 overflow_add-result c =
-    let few : c.digit_count.result ≤ 2 = omega (arith, c.digit_count.ensures, two_digits c.args.addr-base (omega (arith, c.requires))) in
+    let few : c.digit_count.result ≤ 2 = omega (arith, c.digit_count.ensures, two_digits c.args.addr_base (omega (arith, c.requires))) in
     record { fits = omega (arith, few) }
 
 pub returns : goal.returns
 returns c =
-    let few : c.digit_count.result ≤ 2 = omega (arith, c.digit_count.ensures, two_digits c.args.addr-base (omega (arith, c.requires))) in
-    (omega (arith, c.digit_count.ensures, title_other_length c.args.addr-base c.if-addr_base-eq16.false), omega (arith, few))
+    let few : c.digit_count.result ≤ 2 = omega (arith, c.digit_count.ensures, two_digits c.args.addr_base (omega (arith, c.requires))) in
+    (omega (arith, c.digit_count.ensures, title_other_length c.args.addr_base c.if-addr_base-eq16.false), omega (arith, few))

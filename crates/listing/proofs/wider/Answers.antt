@@ -8,18 +8,18 @@ use Rattle.listing.proofs.Columns.{good}
 use Rattle.listing.proofs.wider.Goals as goal
 
 pub digit_count-byte-requires : goal.digit_count-byte-requires
-digit_count-byte-requires c = (good c.args.options c.requires).radix-least
+digit_count-byte-requires c = (good c.args.options c.requires).radix_least
 
 pub digit_count-bit-requires : goal.digit_count-bit-requires
-digit_count-bit-requires c = (good c.args.options c.requires).radix-least
+digit_count-bit-requires c = (good c.args.options c.requires).radix_least
 
 pub digit_count-address-requires : goal.digit_count-address-requires
-digit_count-address-requires c = (good c.args.options c.requires).radix-least
+digit_count-address-requires c = (good c.args.options c.requires).radix_least
 
 pub returns : goal.returns
 unfolding wider
 returns c =
-    let radix = (good c.args.options c.requires).radix-least in
+    let radix = (good c.args.options c.requires).radix_least in
     let byte = count_small c.args.options.addr_base radix 63 (c.args.offset / 8) (omega arith) in
     let bit = count_small c.args.options.addr_base radix 63 (c.args.offset % 8) (omega arith) in
     let address = count_small c.args.options.addr_base radix 63 c.args.addr (omega arith) in (

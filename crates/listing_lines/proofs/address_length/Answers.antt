@@ -5,7 +5,7 @@ use Rattle.listing.proofs.Columns.{good}
 use Rattle.listing_lines.proofs.address_length.Goals as goal
 
 pub digit_count-digits-requires : goal.digit_count-digits-requires
-digit_count-digits-requires c = (good c.args.options c.requires.0).radix-least
+digit_count-digits-requires c = (good c.args.options c.requires.0).radix_least
 
 pub returns : goal.returns
 returns c = omega (arith, c.requires.1 c.if-offset-eq-ABSENT.false)

@@ -23,7 +23,7 @@ put_position-next-requires c =
     let room : place + address + length (column) + length c.args.excerpt.now + 10 ≤ length c.args.out.now = let a = c.args in
     let wide = at_left_length a.widths.content (contents a.options a.image.now a.bits a.offset a.size) in
     omega (arith, c.requires.2, wide, line_parts a.options a.widths a.image.now a.bits a.offset a.size a.addr a.excerpt.now) in
-    (c.requires.0, c.requires.1.byte_fits, c.requires.1.bit-fits, omega (arith, room))
+    (c.requires.0, c.requires.1.byte_fits, c.requires.1.bit_fits, omega (arith, room))
 
 pub put_all-next-requires : goal.put_all-next-requires
 put_all-next-requires c =
@@ -45,7 +45,7 @@ put_address-next-requires c =
     let room : place + address + length (column) + length c.args.excerpt.now + 10 ≤ length c.args.out.now = let a = c.args in
     let wide = at_left_length a.widths.content (contents a.options a.image.now a.bits a.offset a.size) in
     omega (arith, c.requires.2, wide, line_parts a.options a.widths a.image.now a.bits a.offset a.size a.addr a.excerpt.now) in
-    (c.requires.0, c.requires.1.address-fits, omega (arith, room, c.put_position-next.ensures.next, c.put_all-next.ensures.next))
+    (c.requires.0, c.requires.1.address_fits, omega (arith, room, c.put_position-next.ensures.next, c.put_all-next.ensures.next))
 
 pub put_all-next-requires-2 : goal.put_all-next-requires-2
 put_all-next-requires-2 c =

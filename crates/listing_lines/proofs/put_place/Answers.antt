@@ -22,7 +22,7 @@ put_number-requires c =
     let radix = good a.options c.requires.0 in
     let t = number_text Lower a.options.addr_base a.number in
     let fits = c.requires.1 c.if-offset-eq-ABSENT.false in
-    record { range = (radix.radix-least, radix.radix-most); fits = (fits, omega (arith, c.requires.2, ap length (place_present a.options a.width a.offset a.number a.dashes.now c.if-offset-eq-ABSENT.false), padded_length 32 a.width t)) }
+    record { range = (radix.radix_least, radix.radix_most); fits = (fits, omega (arith, c.requires.2, ap length (place_present a.options a.width a.offset a.number a.dashes.now c.if-offset-eq-ABSENT.false), padded_length 32 a.width t)) }
 
 pub returns : goal.returns
 returns c = rw (place_present _ _ _ _ _ c.if-offset-eq-ABSENT.false) c.put_number.ensures
