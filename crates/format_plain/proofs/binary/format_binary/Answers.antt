@@ -16,7 +16,9 @@ use Rattle.format_plain.proofs.binary.format_binary.Goals as goal
 
 pub returns-then-bad_size : goal.returns-then-bad_size
 unfolding binary_outcome
-returns-then-bad_size c = simp (sym c.bad_size.ensures ∙ c.if-bad_size.true) (record { answered = refl; buffer = refl }, refl)
+returns-then-bad_size c = 
+    let bad = sym c.bad_size.ensures ∙ c.if-bad_size.true in
+    record { exports = simp bad (record { answered = refl; buffer = refl }); padding = simp bad refl }
 
 pub parts-count-requires : goal.parts-count-requires
 parts-count-requires c =
@@ -31,8 +33,10 @@ returns-then-out-count c =
     let a = c.args in
     let t = binary_text a.image.now a.bits in
     let full = c.parts-count.ensures ∙ sym (binary_length a.image.now a.bits) in
-    simp (sized)
-    (exports_no_room t a.out.now full c.if-out-count.true, ap (λ (o : Outcome). padded_in o a.bits) (sym (room_short (length a.out.now) t (omega arith))))
+    record {
+      exports = simp sized (exports_no_room t a.out.now full c.if-out-count.true);
+      padding = simp sized (ap (λ (o : Outcome). padded_in o a.bits) (sym (room_short (length a.out.now) t (omega arith))));
+    }
 
 pub write_binary-written-requires : goal.write_binary-written-requires
 write_binary-written-requires c =
@@ -48,5 +52,7 @@ returns c =
     let a = c.args in
     let t = binary_text a.image.now a.bits in
     let fits : length t ≤ length a.out.now = omega (arith, binary_length a.image.now a.bits) in
-    simp (sized)
-    (exports_text fits c.write_binary-written.ensures, ap (λ (o : Outcome). padded_in o a.bits) (sym (room_enough (length a.out.now) t fits)))
+    record {
+      exports = simp sized (exports_text fits c.write_binary-written.ensures);
+      padding = simp sized (ap (λ (o : Outcome). padded_in o a.bits) (sym (room_enough (length a.out.now) t fits)));
+    }

@@ -25,37 +25,37 @@ returns-then-outside c =
 pub parts-count-requires : goal.parts-count-requires
 parts-count-requires c =
     let sized : bad_size c.args.image.now c.args.bits ≡ false = sym c.bad_size.ensures ∙ c.if-bad_size.false in
-    let ranged : outside 1 5 c.args.bits-per-digit ≡ false = sym c.outside.ensures ∙ c.if-outside.false in
+    let ranged : outside 1 5 c.args.bits_per_digit ≡ false = sym c.outside.ensures ∙ c.if-outside.false in
     let a = c.args in
     let size = size_good a.image.now a.bits (sized) in
-    let range = inside 1 5 a.bits-per-digit (ranged) in
+    let range = inside 1 5 a.bits_per_digit (ranged) in
     omega arith
 
 pub returns-then-out-count : goal.returns-then-out-count
 unfolding str_outcome
 returns-then-out-count c =
     let sized : bad_size c.args.image.now c.args.bits ≡ false = sym c.bad_size.ensures ∙ c.if-bad_size.false in
-    let ranged : outside 1 5 c.args.bits-per-digit ≡ false = sym c.outside.ensures ∙ c.if-outside.false in
+    let ranged : outside 1 5 c.args.bits_per_digit ≡ false = sym c.outside.ensures ∙ c.if-outside.false in
     let a = c.args in
     simp (sized, ranged)
-    (exports_no_room (str_text a.image.now a.bits a.bits-per-digit) _ (c.parts-count.ensures ∙ sym (str_length a.image.now a.bits a.bits-per-digit)) c.if-out-count.true)
+    (exports_no_room (str_text a.image.now a.bits a.bits_per_digit) _ (c.parts-count.ensures ∙ sym (str_length a.image.now a.bits a.bits_per_digit)) c.if-out-count.true)
 
 pub put_run-requires : goal.put_run-requires
 put_run-requires c =
     let sized : bad_size c.args.image.now c.args.bits ≡ false = sym c.bad_size.ensures ∙ c.if-bad_size.false in
-    let ranged : outside 1 5 c.args.bits-per-digit ≡ false = sym c.outside.ensures ∙ c.if-outside.false in
+    let ranged : outside 1 5 c.args.bits_per_digit ≡ false = sym c.outside.ensures ∙ c.if-outside.false in
     let a = c.args in
     let size = size_good a.image.now a.bits (sized) in
-    let range = inside 1 5 a.bits-per-digit (ranged) in
-    (range.1, rw c.parts-count.ensures (omega (arith, ceil_reach a.bits a.bits-per-digit)), search rules)
+    let range = inside 1 5 a.bits_per_digit (ranged) in
+    (range.1, rw c.parts-count.ensures (omega (arith, ceil_reach a.bits a.bits_per_digit)), search rules)
 
 pub returns : goal.returns
 unfolding str_outcome str_text
 returns c =
     let sized : bad_size c.args.image.now c.args.bits ≡ false = sym c.bad_size.ensures ∙ c.if-bad_size.false in
-    let ranged : outside 1 5 c.args.bits-per-digit ≡ false = sym c.outside.ensures ∙ c.if-outside.false in
+    let ranged : outside 1 5 c.args.bits_per_digit ≡ false = sym c.outside.ensures ∙ c.if-outside.false in
     let a = c.args in
     simp (sized, ranged)
     (exports_text
-    (omega (arith, str_length a.image.now a.bits a.bits-per-digit))
+    (omega (arith, str_length a.image.now a.bits a.bits_per_digit))
     (rw c.parts-count.ensures at c.put_run.ensures))

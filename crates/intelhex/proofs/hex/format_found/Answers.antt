@@ -27,13 +27,13 @@ slice_bounds-format_blocks-end c =
     let n = c.found-in-Found-1.given.0.0 in
     let blocks = blocks_of a.offsets.now a.sizes.now in
     let answer = c.get_blocks-found in
-    let f = blocks_found_lem a.offsets.now a.sizes.now a.block-offsets.now answer.new.1.1.0 a.block-sizes.now answer.new.1.1.1.0 n (told c.found-in-Found-1.given.1 answer.ensures) in
+    let f = blocks_found_lem a.offsets.now a.sizes.now a.block_offsets.now answer.new.1.1.0 a.block_sizes.now answer.new.1.1.1.0 n (told c.found-in-Found-1.given.1 answer.ensures) in
     let few = blocks_few a.offsets.now a.sizes.now in
     let places = c.requires.room f.4 in
     let offsets = map_length (λ b. b.offset) blocks in
     let sizes = map_length (λ b. b.size) blocks in (
-      ap (take n) f.2 ∙ sets_front a.block-offsets.now (map (λ b. b.offset) blocks) n (omega (arith, few, offsets, places.0)) (f.0 ∙ sym offsets),
-      ap (take n) f.3 ∙ sets_front a.block-sizes.now (map (λ b. b.size) blocks) n (omega (arith, few, sizes, places.1)) (f.0 ∙ sym sizes),
+      ap (take n) f.2 ∙ sets_front a.block_offsets.now (map (λ b. b.offset) blocks) n (omega (arith, few, offsets, places.0)) (f.0 ∙ sym offsets),
+      ap (take n) f.3 ∙ sets_front a.block_sizes.now (map (λ b. b.size) blocks) n (omega (arith, few, sizes, places.1)) (f.0 ∙ sym sizes),
       omega (arith, few, f.0, answer.auto.1.1.0, places.0),
       omega (arith, few, f.0, answer.auto.1.1.1.0, places.1),
       f.1,
@@ -46,13 +46,13 @@ slice_bounds-format_blocks-end-in-Found c =
     let n = c.found-in-Found-1.given.0.0 in
     let blocks = blocks_of a.offsets.now a.sizes.now in
     let answer = c.get_blocks-found in
-    let f = blocks_found_lem a.offsets.now a.sizes.now a.block-offsets.now answer.new.1.1.0 a.block-sizes.now answer.new.1.1.1.0 n (told c.found-in-Found-1.given.1 answer.ensures) in
+    let f = blocks_found_lem a.offsets.now a.sizes.now a.block_offsets.now answer.new.1.1.0 a.block_sizes.now answer.new.1.1.1.0 n (told c.found-in-Found-1.given.1 answer.ensures) in
     let few = blocks_few a.offsets.now a.sizes.now in
     let places = c.requires.room f.4 in
     let offsets = map_length (λ b. b.offset) blocks in
     let sizes = map_length (λ b. b.size) blocks in (
-      ap (take n) f.2 ∙ sets_front a.block-offsets.now (map (λ b. b.offset) blocks) n (omega (arith, few, offsets, places.0)) (f.0 ∙ sym offsets),
-      ap (take n) f.3 ∙ sets_front a.block-sizes.now (map (λ b. b.size) blocks) n (omega (arith, few, sizes, places.1)) (f.0 ∙ sym sizes),
+      ap (take n) f.2 ∙ sets_front a.block_offsets.now (map (λ b. b.offset) blocks) n (omega (arith, few, offsets, places.0)) (f.0 ∙ sym offsets),
+      ap (take n) f.3 ∙ sets_front a.block_sizes.now (map (λ b. b.size) blocks) n (omega (arith, few, sizes, places.1)) (f.0 ∙ sym sizes),
       omega (arith, few, f.0, answer.auto.1.1.0, places.0),
       omega (arith, few, f.0, answer.auto.1.1.1.0, places.1),
       f.1,
@@ -65,13 +65,13 @@ slice_bounds-format_blocks-end-in-Found-2 c =
     let n = c.found-in-Found-1.given.0.0 in
     let blocks = blocks_of a.offsets.now a.sizes.now in
     let answer = c.get_blocks-found in
-    let f = blocks_found_lem a.offsets.now a.sizes.now a.block-offsets.now answer.new.1.1.0 a.block-sizes.now answer.new.1.1.1.0 n (told c.found-in-Found-1.given.1 answer.ensures) in
+    let f = blocks_found_lem a.offsets.now a.sizes.now a.block_offsets.now answer.new.1.1.0 a.block_sizes.now answer.new.1.1.1.0 n (told c.found-in-Found-1.given.1 answer.ensures) in
     let few = blocks_few a.offsets.now a.sizes.now in
     let places = c.requires.room f.4 in
     let offsets = map_length (λ b. b.offset) blocks in
     let sizes = map_length (λ b. b.size) blocks in (
-      ap (take n) f.2 ∙ sets_front a.block-offsets.now (map (λ b. b.offset) blocks) n (omega (arith, few, offsets, places.0)) (f.0 ∙ sym offsets),
-      ap (take n) f.3 ∙ sets_front a.block-sizes.now (map (λ b. b.size) blocks) n (omega (arith, few, sizes, places.1)) (f.0 ∙ sym sizes),
+      ap (take n) f.2 ∙ sets_front a.block_offsets.now (map (λ b. b.offset) blocks) n (omega (arith, few, offsets, places.0)) (f.0 ∙ sym offsets),
+      ap (take n) f.3 ∙ sets_front a.block_sizes.now (map (λ b. b.size) blocks) n (omega (arith, few, sizes, places.1)) (f.0 ∙ sym sizes),
       omega (arith, few, f.0, answer.auto.1.1.0, places.0),
       omega (arith, few, f.0, answer.auto.1.1.1.0, places.1),
       f.1,
@@ -84,13 +84,13 @@ slice_bounds-format_blocks-end-in-Found-3 c =
     let n = c.found-in-Found-1.given.0.0 in
     let blocks = blocks_of a.offsets.now a.sizes.now in
     let answer = c.get_blocks-found in
-    let f = blocks_found_lem a.offsets.now a.sizes.now a.block-offsets.now answer.new.1.1.0 a.block-sizes.now answer.new.1.1.1.0 n (told c.found-in-Found-1.given.1 answer.ensures) in
+    let f = blocks_found_lem a.offsets.now a.sizes.now a.block_offsets.now answer.new.1.1.0 a.block_sizes.now answer.new.1.1.1.0 n (told c.found-in-Found-1.given.1 answer.ensures) in
     let few = blocks_few a.offsets.now a.sizes.now in
     let places = c.requires.room f.4 in
     let offsets = map_length (λ b. b.offset) blocks in
     let sizes = map_length (λ b. b.size) blocks in (
-      ap (take n) f.2 ∙ sets_front a.block-offsets.now (map (λ b. b.offset) blocks) n (omega (arith, few, offsets, places.0)) (f.0 ∙ sym offsets),
-      ap (take n) f.3 ∙ sets_front a.block-sizes.now (map (λ b. b.size) blocks) n (omega (arith, few, sizes, places.1)) (f.0 ∙ sym sizes),
+      ap (take n) f.2 ∙ sets_front a.block_offsets.now (map (λ b. b.offset) blocks) n (omega (arith, few, offsets, places.0)) (f.0 ∙ sym offsets),
+      ap (take n) f.3 ∙ sets_front a.block_sizes.now (map (λ b. b.size) blocks) n (omega (arith, few, sizes, places.1)) (f.0 ∙ sym sizes),
       omega (arith, few, f.0, answer.auto.1.1.0, places.0),
       omega (arith, few, f.0, answer.auto.1.1.1.0, places.1),
       f.1,
@@ -103,13 +103,13 @@ format_blocks-requires c =
     let n = c.found-in-Found-1.given.0.0 in
     let blocks = blocks_of a.offsets.now a.sizes.now in
     let answer = c.get_blocks-found in
-    let f = blocks_found_lem a.offsets.now a.sizes.now a.block-offsets.now answer.new.1.1.0 a.block-sizes.now answer.new.1.1.1.0 n (told c.found-in-Found-1.given.1 answer.ensures) in
+    let f = blocks_found_lem a.offsets.now a.sizes.now a.block_offsets.now answer.new.1.1.0 a.block_sizes.now answer.new.1.1.1.0 n (told c.found-in-Found-1.given.1 answer.ensures) in
     let few = blocks_few a.offsets.now a.sizes.now in
     let places = c.requires.room f.4 in
     let offsets = map_length (λ b. b.offset) blocks in
     let sizes = map_length (λ b. b.size) blocks in (
-      ap (take n) f.2 ∙ sets_front a.block-offsets.now (map (λ b. b.offset) blocks) n (omega (arith, few, offsets, places.0)) (f.0 ∙ sym offsets),
-      ap (take n) f.3 ∙ sets_front a.block-sizes.now (map (λ b. b.size) blocks) n (omega (arith, few, sizes, places.1)) (f.0 ∙ sym sizes),
+      ap (take n) f.2 ∙ sets_front a.block_offsets.now (map (λ b. b.offset) blocks) n (omega (arith, few, offsets, places.0)) (f.0 ∙ sym offsets),
+      ap (take n) f.3 ∙ sets_front a.block_sizes.now (map (λ b. b.size) blocks) n (omega (arith, few, sizes, places.1)) (f.0 ∙ sym sizes),
       omega (arith, few, f.0, answer.auto.1.1.0, places.0),
       omega (arith, few, f.0, answer.auto.1.1.1.0, places.1),
       f.1,
@@ -123,15 +123,15 @@ format_blocks-requires c =
 pub returns-in-SpanRange : goal.returns-in-SpanRange
 returns-in-SpanRange c =
     let a = c.args in
-    let rest = plan_outcome a.image.now a.bits (hex_plan a.address-unit (blocks_of a.offsets.now a.sizes.now)) (length a.out.now) in
-    rw (range_found a.offsets.now a.sizes.now a.block-offsets.now c.get_blocks-found.new.block_offsets a.block-sizes.now c.get_blocks-found.new.block_sizes refused rest c.found-1.given.0.0 (told c.found-1.given.1 c.get_blocks-found.ensures))
+    let rest = plan_outcome a.image.now a.bits (hex_plan a.address_unit (blocks_of a.offsets.now a.sizes.now)) (length a.out.now) in
+    rw (range_found a.offsets.now a.sizes.now a.block_offsets.now c.get_blocks-found.new.block_offsets a.block_sizes.now c.get_blocks-found.new.block_sizes refused rest c.found-1.given.0.0 (told c.found-1.given.1 c.get_blocks-found.ensures))
     record { answered = refl; buffer = refl }
 
 pub returns-in-NoRoom : goal.returns-in-NoRoom
 returns-in-NoRoom c =
     let a = c.args in
     absurd
-    (room_found a.offsets.now a.sizes.now a.block-offsets.now c.get_blocks-found.new.block_offsets a.block-sizes.now c.get_blocks-found.new.block_sizes
+    (room_found a.offsets.now a.sizes.now a.block_offsets.now c.get_blocks-found.new.block_offsets a.block_sizes.now c.get_blocks-found.new.block_sizes
     c.requires.room c.found-in-NoRoom-1.given.0.0 (told c.found-in-NoRoom-1.given.1 c.get_blocks-found.ensures))
 
 pub returns-in-Found : goal.returns-in-Found
@@ -140,13 +140,13 @@ returns-in-Found c =
     let n = c.found-in-Found-1.given.0.0 in
     let blocks = blocks_of a.offsets.now a.sizes.now in
     let answer = c.get_blocks-found in
-    let f = blocks_found_lem a.offsets.now a.sizes.now a.block-offsets.now answer.new.1.1.0 a.block-sizes.now answer.new.1.1.1.0 n (told c.found-in-Found-1.given.1 answer.ensures) in
+    let f = blocks_found_lem a.offsets.now a.sizes.now a.block_offsets.now answer.new.1.1.0 a.block_sizes.now answer.new.1.1.1.0 n (told c.found-in-Found-1.given.1 answer.ensures) in
     let few = blocks_few a.offsets.now a.sizes.now in
     let places = c.requires.room f.4 in
     let offsets = map_length (λ b. b.offset) blocks in
     let sizes = map_length (λ b. b.size) blocks in (
-      ap (take n) f.2 ∙ sets_front a.block-offsets.now (map (λ b. b.offset) blocks) n (omega (arith, few, offsets, places.0)) (f.0 ∙ sym offsets),
-      ap (take n) f.3 ∙ sets_front a.block-sizes.now (map (λ b. b.size) blocks) n (omega (arith, few, sizes, places.1)) (f.0 ∙ sym sizes),
+      ap (take n) f.2 ∙ sets_front a.block_offsets.now (map (λ b. b.offset) blocks) n (omega (arith, few, offsets, places.0)) (f.0 ∙ sym offsets),
+      ap (take n) f.3 ∙ sets_front a.block_sizes.now (map (λ b. b.size) blocks) n (omega (arith, few, sizes, places.1)) (f.0 ∙ sym sizes),
       omega (arith, few, f.0, answer.auto.1.1.0, places.0),
       omega (arith, few, f.0, answer.auto.1.1.1.0, places.1),
       f.1,
@@ -155,7 +155,7 @@ returns-in-Found c =
     let n = c.found-in-Found-1.given.0.0 in
     let answer = c.get_blocks-found in
     let blocks = blocks_of a.offsets.now a.sizes.now in
-    let rest = plan_outcome a.image.now a.bits (hex_plan a.address-unit blocks) (length a.out.now) in
-    let good = good_found a.offsets.now a.sizes.now a.block-offsets.now answer.new.1.1.0 a.block-sizes.now answer.new.1.1.1.0 refused rest n (told c.found-in-Found-1.given.1 answer.ensures) in
+    let rest = plan_outcome a.image.now a.bits (hex_plan a.address_unit blocks) (length a.out.now) in
+    let good = good_found a.offsets.now a.sizes.now a.block_offsets.now answer.new.1.1.0 a.block_sizes.now answer.new.1.1.1.0 refused rest n (told c.found-in-Found-1.given.1 answer.ensures) in
     let found : blocks_at (take n answer.new.1.1.0) (take n answer.new.1.1.1.0) ≡ blocks = rw ((there).0, (there).1) (blocks_back blocks) in
     rw (good, ← found) c.format_blocks.ensures

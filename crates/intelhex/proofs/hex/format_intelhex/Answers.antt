@@ -16,7 +16,7 @@ returns-then-outside c = simp (sym c.bad_size.ensures ∙ c.if-bad_size.false, s
 
 pub format_few-requires : goal.format_few-requires
 format_few-requires c =
-    let unit : 0 < c.args.address-unit = (inside 1 64 c.args.address-unit (sym c.outside.ensures ∙ c.if-outside.false)).0 in
+    let unit : 0 < c.args.address_unit = (inside 1 64 c.args.address_unit (sym c.outside.ensures ∙ c.if-outside.false)).0 in
     (unit, c.if-offsets-le64.true)
 
 pub returns-then-offsets-le64 : goal.returns-then-offsets-le64
@@ -26,7 +26,7 @@ returns-then-offsets-le64 c =
 
 pub format_many-requires : goal.format_many-requires
 format_many-requires c =
-    let unit : 0 < c.args.address-unit = (inside 1 64 c.args.address-unit (sym c.outside.ensures ∙ c.if-outside.false)).0 in
+    let unit : 0 < c.args.address_unit = (inside 1 64 c.args.address_unit (sym c.outside.ensures ∙ c.if-outside.false)).0 in
     unit
 
 pub returns : goal.returns
