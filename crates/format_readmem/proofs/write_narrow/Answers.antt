@@ -37,7 +37,7 @@ put_lines-next-requires c =
     let digit = c.digit_bits-digit.result in
     let whole = a.bits / a.width in
     let texts = length-append (pieces (line_at a.kind a.image.now a.bits a.width) whole) (pieces (λ k. line_at a.kind a.image.now a.bits a.width (whole + k)) (a.lines - whole)) in
-    let written = lines_length a.image.now a.bits digit 0 (a.width / digit) 10 whole in record { size = (omega (arith, c.digit_bits-digit.ensures.0), (runs).0, omega (arith, (runs).1), omega (arith, ap (λ (x : ℕ). whole * x) (runs).2, div-mul-le_self a.bits a.width, c.requires.size.2)); room = omega (arith, written, ap length (lines_of), ap length (parts_of), texts, c.requires.room) }
+    let written = lines_length a.image.now a.bits digit 0 (a.width / digit) 10 whole in record { small = (omega (arith, c.digit_bits-digit.ensures.0), (runs).0, omega (arith, (runs).1), omega (arith, ap (λ (x : ℕ). whole * x) (runs).2, div-mul-le_self a.bits a.width, c.requires.size.2)); room = omega (arith, written, ap length (lines_of), ap length (parts_of), texts, c.requires.room) }
 
 pub put_lines-requires-2 : goal.put_lines-requires-2
 put_lines-requires-2 c =
