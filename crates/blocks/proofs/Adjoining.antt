@@ -16,7 +16,7 @@ use Rattle.span_order.proofs.Straight.{rising_next, rises_in_order}
 use Rattle.adjoining.specs.Adjoin.{Adjoin}
 use Rattle.span_range.specs.Range.{fault_at}
 use Rattle.span_range.proofs.Good.{good_span}
-use Rattle.blocks.specs.Blocks.{Block, present, closed, running, blocks_in, blocks_of}
+use Rattle.blocks.specs.Blocks.{present, closed, running, blocks_in, blocks_of}
 use Rattle.blocks.proofs.Running.{present_next, present_none, running_joins, running_last}
 
 -- A list by number, its first one before the others.

@@ -2,7 +2,6 @@
 use Rattle.std.specs.Prelude.{◌≡◌, cond, ◌||◌, List, [], ◌∷◌, map, ℕ, ◌+◌, eqb, ltb, length, get_or}
 use Rattle.std.proofs.lemmas.List.Edits.{sets}
 use Rattle.outcome.specs.Outcome.{Answer}
-use Rattle.ordering.specs.Lists.{first}
 use Rattle.ordering.specs.Order.{absent, in_order}
 use Rattle.span_range.specs.Range.{spans_checked}
 use Rattle.blocks.specs.declared.Blocks.{Blocks}

@@ -2,6 +2,7 @@
 // one after the other. Spans are lent as two slices of numbers, the offsets, with 4294967295 for an
 // absent one, and the sizes.
 #![tactic(auto)]
+
 ghost use Rattle.std.specs.Prelude.{◌≡◌, false, ◌≢◌, [], map, ◌+◌, ◌≤◌, ◌<◌, length};
 ghost use Rattle.std.proofs.lemmas.List.Edits.{sets};
 ghost use Rattle.ordering.specs.Order.{in_order};

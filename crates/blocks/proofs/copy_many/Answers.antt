@@ -6,5 +6,5 @@ use Rattle.blocks.proofs.copy_many.Goals as goal
 
 pub copy_blocks-requires : goal.copy_blocks-requires
 copy_blocks-requires c =
-    let short = (short_list c.args.offsets.now c.args.sizes.now c.requires.0).0 in
-    record { good = c.requires; room = (omega (arith, c.words-found_offsets.ensures), omega (arith, c.words-found_sizes.ensures)) }
+    let short = (short_list c.args.offsets.now c.args.sizes.now c.requires.good.0).0 in
+    record { good = c.requires.good; room = (omega (arith, c.words-found_offsets.ensures), omega (arith, c.words-found_sizes.ensures)) }

@@ -4,5 +4,4 @@ use Rattle.blocks.proofs.find_blocks.Goals as goal
 
 pub one_block-requires : goal.one_block-requires
 one_block-requires c =
-    let pre = c.requires in
-    record { lent = (pre.0.1, c.all_adjoin.ensures c.if-all_adjoin.true); good = pre.1.0; room = pre.1.1 }
+    record { lent = (c.requires.lent.1, c.all_adjoin.ensures c.if-all_adjoin.true); good = c.requires.good; room = c.requires.room }

@@ -22,7 +22,9 @@ returns-then-place-offsets c =
 
 pub good_blocks-requires : goal.good_blocks-requires
 good_blocks-requires c =
-    (
-  sym c.long_list.ensures ∙ c.if-long_list.false,
-  omega (arith, c.fault_at-place.ensures, c.if-place-offsets.false, fault_most c.args.offsets.now c.args.sizes.now),
-)
+    record {
+      good = (
+        sym c.long_list.ensures ∙ c.if-long_list.false,
+        omega (arith, c.fault_at-place.ensures, c.if-place-offsets.false, fault_most c.args.offsets.now c.args.sizes.now),
+      );
+    }

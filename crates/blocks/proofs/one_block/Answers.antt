@@ -27,4 +27,9 @@ pub returns : goal.returns
 returns c =
     let e = c.close.ensures in
     let a = c.args in
-    let one = sym (adjoin_one a.offsets.now a.sizes.now c.requires.lent.1 c.requires.good) in record { counted = e.0 ∙ zero-add _ ∙ ap (length {A = Block}) one; offsets = e.1.0 ∙ ap (λ (l : List Block). sets a.block-offsets.now 0 (map (λ b. b.offset) l)) one; sizes = e.1.1 ∙ ap (λ (l : List Block). sets a.block-sizes.now 0 (map (λ b. b.size) l)) one }
+    let one = sym (adjoin_one a.offsets.now a.sizes.now c.requires.lent.1 c.requires.good) in
+    record {
+      counted = e.counted ∙ zero-add _ ∙ ap (length {A = Block}) one;
+      offsets = e.offsets ∙ ap (λ (l : List Block). sets a.block_offsets.now 0 (map (λ b. b.offset) l)) one;
+      sizes = e.sizes ∙ ap (λ (l : List Block). sets a.block_sizes.now 0 (map (λ b. b.size) l)) one;
+    }

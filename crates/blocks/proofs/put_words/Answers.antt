@@ -1,7 +1,6 @@
 -- `blocks::put_words` meets its contract: after k turns the first k numbers are copied.
 -- Assumes nothing.
 use mathlib.Core.Path.{◌≡◌, ◌∙◌}
-use Prim.Native.Nat.{◌-◌}
 use native.Mathlib.Omega.{arith}
 use lib.ListN.{length}
 use lib.Seq.{take-length}
