@@ -29,7 +29,7 @@ abbrev pub line_byte : List ℕ → ℕ → ℕ → ℕ → ℕ → List ℕ
 line_byte bytes len w first j = dump_byte bytes len w ((first + j) * 8)
 
 -- A line has its address, its bytes in digits and as characters, and nine characters more.
-line_parts : (bytes : List ℕ) (len w n width first : ℕ)
+pub line_parts : (bytes : List ℕ) (len w n width first : ℕ)
     → length (dump_line bytes len w n width first) ≡ max width (digit_count 16 first) + length (joined gap (line_byte bytes len w first) n) + n + 9
 unfolding dump_line
 line_parts bytes len w n width first =

@@ -1,7 +1,6 @@
 -- `dump_line::put_char_column` meets its contract: after j turns j characters are written.
 -- Assumes nothing.
 use mathlib.Core.Path.{◌≡◌, refl}
-use Prim.Native.Nat.{◌-◌}
 use native.Mathlib.Omega.{arith}
 use borrow.Author.Rules.{rules}
 use Rattle.output.proofs.Pieces.{pieces_none, pieces_next}
@@ -12,13 +11,12 @@ pub loop-j-init : goal.loop-j-init
 loop-j-init c = (search rules, search rules, rw pieces_none (writes_nothing _ _), refl)
 
 pub loop-j-preserved : goal.loop-j-preserved
-loop-j-preserved c =
-    (
-      search rules,
-      search rules,
-      rw pieces_next (writes_then c.loop-j.invariant.2 (rw (← c.dump_char-c.ensures) c.put-next.ensures)),
-      search rules,
-    )
+loop-j-preserved c = (
+  search rules,
+  search rules,
+  rw pieces_next (writes_then c.loop-j.invariant.2 (rw (← c.dump_char-c.ensures) c.put-next.ensures)),
+  search rules,
+)
 
 pub returns : goal.returns
 returns c =

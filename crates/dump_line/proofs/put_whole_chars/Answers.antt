@@ -1,7 +1,7 @@
 -- `dump_line::put_whole_chars` meets its contract: after j turns j characters are written.
 -- Assumes nothing.
 use mathlib.Core.Path.{◌≡◌, refl}
-use Prim.Native.Nat.{◌+◌, ◌-◌}
+use Prim.Native.Nat.{◌+◌}
 use native.Mathlib.Omega.{arith}
 use borrow.Author.Rules.{rules}
 use Rattle.output.proofs.Pieces.{pieces_none, pieces_next}

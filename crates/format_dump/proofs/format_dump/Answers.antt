@@ -7,7 +7,6 @@ use Prim.Native.Nat.{ℕ, ◌-◌, ◌*◌, ◌≤◌, ◌<◌, ◌^◌}
 use native.Mathlib.Nat.{mul-le-mul, mul-le-mul_left}
 use native.Mathlib.Omega.{arith}
 use lib.ListN.{length}
-use borrow.Author.Tests.{not-true, not-false}
 use Rattle.bitvec.specs.Size.{bad_size}
 use Rattle.bitvec.proofs.Size.{size_good}
 use Rattle.output.proofs.Order.{stride}
@@ -28,13 +27,13 @@ pub returns-then-not-in_range : goal.returns-then-not-in_range
 unfolding dump_outcome
 returns-then-not-in_range c =
     let sized : bad_size c.args.image.now c.args.bits ≡ false = sym c.bad_size.ensures ∙ c.if-bad_size.false in
-    simp (sized, sym c.in_range.ensures ∙ not-true _ c.if-not-in_range.true) record { answered = refl; buffer = refl }
+    simp (sized, sym c.in_range.ensures ∙ c.if-not-in_range.true) record { answered = refl; buffer = refl }
 
 pub dump_lines-lines-requires : goal.dump_lines-lines-requires
 dump_lines-lines-requires c =
     let width : ℕ = c.args.options.digit_bits in
     let count : ℕ = c.args.options.bytes_per_line in
-    let ranged : in_range c.args.options ≡ true = sym c.in_range.ensures ∙ not-false _ c.if-not-in_range.false in
+    let ranged : in_range c.args.options ≡ true = sym c.in_range.ensures ∙ c.if-not-in_range.false in
     let sized : bad_size c.args.image.now c.args.bits ≡ false = sym c.bad_size.ensures ∙ c.if-bad_size.false in
     let bounds : (0 < width) × (width ≤ 4) × (1 ≤ count) × (count ≤ 64) × (c.args.bits ≤ 16777216) = let a = c.args in
     let range = in_range_lem a.options (ranged) in
@@ -45,7 +44,7 @@ pub overflow_sub-lines : goal.overflow_sub-lines
 overflow_sub-lines c =
     let count : ℕ = c.args.options.bytes_per_line in
     let width : ℕ = c.args.options.digit_bits in
-    let ranged : in_range c.args.options ≡ true = sym c.in_range.ensures ∙ not-false _ c.if-not-in_range.false in
+    let ranged : in_range c.args.options ≡ true = sym c.in_range.ensures ∙ c.if-not-in_range.false in
     let sized : bad_size c.args.image.now c.args.bits ≡ false = sym c.bad_size.ensures ∙ c.if-bad_size.false in
     let bounds : (0 < width) × (width ≤ 4) × (1 ≤ count) × (count ≤ 64) × (c.args.bits ≤ 16777216) = let a = c.args in
     let range = in_range_lem a.options (ranged) in
@@ -60,7 +59,7 @@ overflow_mul-lines c =
     let count : ℕ = c.args.options.bytes_per_line in
     let last : ℕ = (c.dump_lines-lines.result - 1) * count in
     let width : ℕ = c.args.options.digit_bits in
-    let ranged : in_range c.args.options ≡ true = sym c.in_range.ensures ∙ not-false _ c.if-not-in_range.false in
+    let ranged : in_range c.args.options ≡ true = sym c.in_range.ensures ∙ c.if-not-in_range.false in
     let sized : bad_size c.args.image.now c.args.bits ≡ false = sym c.bad_size.ensures ∙ c.if-bad_size.false in
     let bounds : (0 < width) × (width ≤ 4) × (1 ≤ count) × (count ≤ 64) × (c.args.bits ≤ 16777216) = let a = c.args in
     let range = in_range_lem a.options (ranged) in
@@ -76,7 +75,7 @@ pub line_length-requires : goal.line_length-requires
 line_length-requires c =
     let width : ℕ = c.args.options.digit_bits in
     let count : ℕ = c.args.options.bytes_per_line in
-    let ranged : in_range c.args.options ≡ true = sym c.in_range.ensures ∙ not-false _ c.if-not-in_range.false in
+    let ranged : in_range c.args.options ≡ true = sym c.in_range.ensures ∙ c.if-not-in_range.false in
     let sized : bad_size c.args.image.now c.args.bits ≡ false = sym c.bad_size.ensures ∙ c.if-bad_size.false in
     let bounds : (0 < width) × (width ≤ 4) × (1 ≤ count) × (count ≤ 64) × (c.args.bits ≤ 16777216) = let a = c.args in
     let range = in_range_lem a.options (ranged) in
@@ -96,7 +95,7 @@ pub overflow_mul-needed : goal.overflow_mul-needed
 overflow_mul-needed c =
     let count : ℕ = c.args.options.bytes_per_line in
     let width : ℕ = c.args.options.digit_bits in
-    let ranged : in_range c.args.options ≡ true = sym c.in_range.ensures ∙ not-false _ c.if-not-in_range.false in
+    let ranged : in_range c.args.options ≡ true = sym c.in_range.ensures ∙ c.if-not-in_range.false in
     let sized : bad_size c.args.image.now c.args.bits ≡ false = sym c.bad_size.ensures ∙ c.if-bad_size.false in
     let bounds : (0 < width) × (width ≤ 4) × (1 ≤ count) × (count ≤ 64) × (c.args.bits ≤ 16777216) = let a = c.args in
     let range = in_range_lem a.options (ranged) in
@@ -123,7 +122,7 @@ pub returns-then-out-needed : goal.returns-then-out-needed
 unfolding dump_outcome
 returns-then-out-needed c =
     let sized : bad_size c.args.image.now c.args.bits ≡ false = sym c.bad_size.ensures ∙ c.if-bad_size.false in
-    let ranged : in_range c.args.options ≡ true = sym c.in_range.ensures ∙ not-false _ c.if-not-in_range.false in
+    let ranged : in_range c.args.options ≡ true = sym c.in_range.ensures ∙ c.if-not-in_range.false in
     let width : ℕ = c.args.options.digit_bits in
     let count : ℕ = c.args.options.bytes_per_line in
     let text : List ℕ = dump_text c.args.image.now c.args.bits (width) (count) in
@@ -138,7 +137,7 @@ pub write_dump-requires : goal.write_dump-requires
 write_dump-requires c =
     let width : ℕ = c.args.options.digit_bits in
     let count : ℕ = c.args.options.bytes_per_line in
-    let ranged : in_range c.args.options ≡ true = sym c.in_range.ensures ∙ not-false _ c.if-not-in_range.false in
+    let ranged : in_range c.args.options ≡ true = sym c.in_range.ensures ∙ c.if-not-in_range.false in
     let sized : bad_size c.args.image.now c.args.bits ≡ false = sym c.bad_size.ensures ∙ c.if-bad_size.false in
     let bounds : (0 < width) × (width ≤ 4) × (1 ≤ count) × (count ≤ 64) × (c.args.bits ≤ 16777216) = let a = c.args in
     let range = in_range_lem a.options (ranged) in
@@ -158,7 +157,7 @@ pub returns : goal.returns
 unfolding dump_outcome
 returns c =
     let sized : bad_size c.args.image.now c.args.bits ≡ false = sym c.bad_size.ensures ∙ c.if-bad_size.false in
-    let ranged : in_range c.args.options ≡ true = sym c.in_range.ensures ∙ not-false _ c.if-not-in_range.false in
+    let ranged : in_range c.args.options ≡ true = sym c.in_range.ensures ∙ c.if-not-in_range.false in
     let width : ℕ = c.args.options.digit_bits in
     let count : ℕ = c.args.options.bytes_per_line in
     let text : List ℕ = dump_text c.args.image.now c.args.bits (width) (count) in
