@@ -4,13 +4,8 @@
 ghost use Rattle.std.specs.Prelude.{◌≡◌, length};
 
 use job::run_job;
-
-// Room for a job and one byte more, which tells that it is too long.
-fn job_room() -> [u8; 65537]
-    ensures { length result ≡ 65537 }
-{
-    [0; 65537]
-}
+use std::io;
+use std::io::{Read, Write};
 
 // Room for what is printed.
 fn out_room() -> [u8; 65536]
@@ -19,10 +14,11 @@ fn out_room() -> [u8; 65536]
     [0; 65536]
 }
 
-fn main() {
-    let mut bytes = job_room();
-    let n = io::read_full(0, &mut bytes);
+// Of the input a job and one byte more are read, which tells that it is too long.
+fn main(rt: HostRuntime) -> io::Result<()> {
+    let mut job = Vec::new(rt.alloc());
+    rt.stdin().take(65537).read_to_end(&mut job)?;
     let mut out = out_room();
-    let length = run_job(&bytes[..n], &mut out);
-    io::write_all(1, &out[..length]);
+    let length = run_job(&job, &mut out);
+    rt.stdout().write_all(&out[..length])
 }

@@ -1,16 +1,18 @@
 // The dump and its presets.
-ghost use Rattle.std.specs.Prelude.{◌≤◌};
+ghost use Rattle.std.specs.Prelude.{◌≤◌, IfOk};
 
 use crate::tell::{OLD, gave, tell};
 use format_dump::DumpOptions;
+use std::io;
 
-pub(crate) fn hexdump_row() -> u64
-    ensures { result ≤ 1 }
+pub(crate) fn hexdump_row(rt: &impl Print) -> io::Result<u64>
+    ensures { IfOk result (λ n. n ≤ 1) }
 {
     let mut out = [OLD; 256];
     let answer = format_dump::format_hexdump(b"", 0, &mut out);
     tell(
-        b"hexdump, 0 bits",
+        rt,
+        "hexdump, 0 bits",
         gave(
             answer,
             &out,
@@ -22,8 +24,8 @@ pub(crate) fn hexdump_row() -> u64
 }
 
 // 7F is printed, a bar is a point, a tab is a space, and the last bit is not shown.
-pub(crate) fn one_line_of_129_bits() -> u64
-    ensures { result ≤ 1 }
+pub(crate) fn one_line_of_129_bits(rt: &impl Print) -> io::Result<u64>
+    ensures { IfOk result (λ n. n ≤ 1) }
 {
     let mut out = [OLD; 256];
     let image = [
@@ -31,7 +33,8 @@ pub(crate) fn one_line_of_129_bits() -> u64
     ];
     let answer = format_dump::format_hexdump(&image, 129, &mut out);
     tell(
-        b"hexdump, 129 bits in one line",
+        rt,
+        "hexdump, 129 bits in one line",
         gave(
             answer,
             &out,
@@ -42,13 +45,14 @@ pub(crate) fn one_line_of_129_bits() -> u64
     )
 }
 
-pub(crate) fn bindump_of_three_bits() -> u64
-    ensures { result ≤ 1 }
+pub(crate) fn bindump_of_three_bits(rt: &impl Print) -> io::Result<u64>
+    ensures { IfOk result (λ n. n ≤ 1) }
 {
     let mut out = [OLD; 256];
     let answer = format_dump::format_bindump(&[0b10110111], 3, &mut out);
     tell(
-        b"bindump, bits 101",
+        rt,
+        "bindump, bits 101",
         gave(
             answer,
             &out,
@@ -59,8 +63,8 @@ pub(crate) fn bindump_of_three_bits() -> u64
     )
 }
 
-pub(crate) fn bytes_of_nine_bits() -> u64
-    ensures { result ≤ 1 }
+pub(crate) fn bytes_of_nine_bits(rt: &impl Print) -> io::Result<u64>
+    ensures { IfOk result (λ n. n ≤ 1) }
 {
     let mut out = [OLD; 256];
     let options = DumpOptions {
@@ -70,7 +74,8 @@ pub(crate) fn bytes_of_nine_bits() -> u64
     };
     let answer = format_dump::format_dump(&[0x12], 8, options, &mut out);
     tell(
-        b"refusal 2: a dump of bytes of 9 bits",
+        rt,
+        "refusal 2: a dump of bytes of 9 bits",
         gave(answer, &out, 2, 0, b""),
     )
 }

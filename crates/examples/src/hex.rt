@@ -1,31 +1,34 @@
 // Intel HEX, with units of 8 bits but where another one is named.
-ghost use Rattle.std.specs.Prelude.{◌≤◌, length};
+ghost use Rattle.std.specs.Prelude.{◌≤◌, length, IfOk};
 
 use crate::tell::{OLD, gave, tell};
 use intelhex::format_intelhex;
 use ordering::ABSENT;
+use std::io;
 
 // Tells whether the export gives the text.
 fn writes(
-    name: &[u8],
+    rt: &impl Print,
+    name: &str,
     image: &[u8],
     bits: usize,
     offsets: &[u32],
     sizes: &[u32],
     unit: usize,
     text: &[u8],
-) -> u64
+) -> io::Result<u64>
     requires { length text.now ≤ 256 }
-    ensures { result ≤ 1 }
+    ensures { IfOk result (λ n. n ≤ 1) }
 {
     let mut out = [OLD; 256];
     let answer = format_intelhex(image, bits, offsets, sizes, unit, &mut out);
-    tell(name, gave(answer, &out, 0, text.len(), text))
+    tell(rt, name, gave(answer, &out, 0, text.len(), text))
 }
 
 // Tells whether it gives the refusal.
 fn refuses(
-    name: &[u8],
+    rt: &impl Print,
+    name: &str,
     image: &[u8],
     bits: usize,
     offsets: &[u32],
@@ -33,26 +36,27 @@ fn refuses(
     unit: usize,
     number: u32,
     value: usize,
-) -> u64
-    ensures { result ≤ 1 }
+) -> io::Result<u64>
+    ensures { IfOk result (λ n. n ≤ 1) }
 {
     let mut out = [OLD; 256];
     let answer = format_intelhex(image, bits, offsets, sizes, unit, &mut out);
-    tell(name, gave(answer, &out, number, value, b""))
+    tell(rt, name, gave(answer, &out, number, value, b""))
 }
 
-fn no_spans() -> u64
-    ensures { result ≤ 1 }
+fn no_spans(rt: &impl Print) -> io::Result<u64>
+    ensures { IfOk result (λ n. n ≤ 1) }
 {
-    writes(b"HEX, no spans", &[0x12], 8, &[], &[], 8, b":00000001FF")
+    writes(rt, "HEX, no spans", &[0x12], 8, &[], &[], 8, b":00000001FF")
 }
 
 // The last byte has spare bits that are set.
-fn twelve_bits() -> u64
-    ensures { result ≤ 1 }
+fn twelve_bits(rt: &impl Print) -> io::Result<u64>
+    ensures { IfOk result (λ n. n ≤ 1) }
 {
     writes(
-        b"HEX, 12 bits ABC, span 0 size 12",
+        rt,
+        "HEX, 12 bits ABC, span 0 size 12",
         &[0xab, 0xcf],
         12,
         &[0],
@@ -63,11 +67,12 @@ fn twelve_bits() -> u64
 }
 
 // A block that is not whole bytes takes the bits after it.
-fn half_a_byte() -> u64
-    ensures { result ≤ 1 }
+fn half_a_byte(rt: &impl Print) -> io::Result<u64>
+    ensures { IfOk result (λ n. n ≤ 1) }
 {
     writes(
-        b"HEX, 16 bits ABCD, span 0 size 4",
+        rt,
+        "HEX, 16 bits ABCD, span 0 size 4",
         &[0xab, 0xcd],
         16,
         &[0],
@@ -77,11 +82,12 @@ fn half_a_byte() -> u64
     )
 }
 
-fn empty_span_after() -> u64
-    ensures { result ≤ 1 }
+fn empty_span_after(rt: &impl Print) -> io::Result<u64>
+    ensures { IfOk result (λ n. n ≤ 1) }
 {
     writes(
-        b"HEX, bytes 11 22, spans (0,8) (0,0) (8,8)",
+        rt,
+        "HEX, bytes 11 22, spans (0,8) (0,0) (8,8)",
         &[0x11, 0x22],
         16,
         &[0, 0, 8],
@@ -91,11 +97,12 @@ fn empty_span_after() -> u64
     )
 }
 
-fn empty_span_before() -> u64
-    ensures { result ≤ 1 }
+fn empty_span_before(rt: &impl Print) -> io::Result<u64>
+    ensures { IfOk result (λ n. n ≤ 1) }
 {
     writes(
-        b"HEX, bytes 11 22, spans (0,0) (0,8) (8,8)",
+        rt,
+        "HEX, bytes 11 22, spans (0,0) (0,8) (8,8)",
         &[0x11, 0x22],
         16,
         &[0, 0, 8],
@@ -105,11 +112,12 @@ fn empty_span_before() -> u64
     )
 }
 
-fn last_address() -> u64
-    ensures { result ≤ 1 }
+fn last_address(rt: &impl Print) -> io::Result<u64>
+    ensures { IfOk result (λ n. n ≤ 1) }
 {
     writes(
-        b"HEX, empty image, span (524280,8)",
+        rt,
+        "HEX, empty image, span (524280,8)",
         b"",
         0,
         &[524280],
@@ -119,11 +127,12 @@ fn last_address() -> u64
     )
 }
 
-fn past_the_last_address() -> u64
-    ensures { result ≤ 1 }
+fn past_the_last_address(rt: &impl Print) -> io::Result<u64>
+    ensures { IfOk result (λ n. n ≤ 1) }
 {
     refuses(
-        b"refusal 5: HEX, span (524288,8)",
+        rt,
+        "refusal 5: HEX, span (524288,8)",
         b"",
         0,
         &[524288],
@@ -134,11 +143,12 @@ fn past_the_last_address() -> u64
     )
 }
 
-fn second_record() -> u64
-    ensures { result ≤ 1 }
+fn second_record(rt: &impl Print) -> io::Result<u64>
+    ensures { IfOk result (λ n. n ≤ 1) }
 {
     writes(
-        b"HEX, 33 zero bytes, span (0,264)",
+        rt,
+        "HEX, 33 zero bytes, span (0,264)",
         &[0; 33],
         264,
         &[0],
@@ -148,11 +158,12 @@ fn second_record() -> u64
     )
 }
 
-fn absent_offset() -> u64
-    ensures { result ≤ 1 }
+fn absent_offset(rt: &impl Print) -> io::Result<u64>
+    ensures { IfOk result (λ n. n ≤ 1) }
 {
     writes(
-        b"HEX, a span with an absent offset is skipped",
+        rt,
+        "HEX, a span with an absent offset is skipped",
         &[0x12],
         8,
         &[0, ABSENT],
@@ -163,11 +174,12 @@ fn absent_offset() -> u64
 }
 
 // In units of 16 bits, byte 2 is at address 1.
-fn unit_of_two_bytes() -> u64
-    ensures { result ≤ 1 }
+fn unit_of_two_bytes(rt: &impl Print) -> io::Result<u64>
+    ensures { IfOk result (λ n. n ≤ 1) }
 {
     writes(
-        b"HEX unit 16, span (16,8)",
+        rt,
+        "HEX unit 16, span (16,8)",
         &[0, 0, 0x12],
         24,
         &[16],
@@ -177,11 +189,12 @@ fn unit_of_two_bytes() -> u64
     )
 }
 
-fn past_the_bytes() -> u64
-    ensures { result ≤ 1 }
+fn past_the_bytes(rt: &impl Print) -> io::Result<u64>
+    ensures { IfOk result (λ n. n ≤ 1) }
 {
     refuses(
-        b"refusal 1: HEX, 9 bits of one byte, before unit 0",
+        rt,
+        "refusal 1: HEX, 9 bits of one byte, before unit 0",
         &[0x12],
         9,
         &[0],
@@ -192,11 +205,12 @@ fn past_the_bytes() -> u64
     )
 }
 
-fn no_unit() -> u64
-    ensures { result ≤ 1 }
+fn no_unit(rt: &impl Print) -> io::Result<u64>
+    ensures { IfOk result (λ n. n ≤ 1) }
 {
     refuses(
-        b"refusal 2: HEX unit 0, before unequal slices",
+        rt,
+        "refusal 2: HEX unit 0, before unequal slices",
         &[0x12],
         8,
         &[0],
@@ -207,19 +221,30 @@ fn no_unit() -> u64
     )
 }
 
-fn large_unit() -> u64
-    ensures { result ≤ 1 }
+fn large_unit(rt: &impl Print) -> io::Result<u64>
+    ensures { IfOk result (λ n. n ≤ 1) }
 {
-    refuses(b"refusal 2: HEX unit 65", &[0x12], 8, &[0], &[8], 65, 2, 0)
+    refuses(
+        rt,
+        "refusal 2: HEX unit 65",
+        &[0x12],
+        8,
+        &[0],
+        &[8],
+        65,
+        2,
+        0,
+    )
 }
 
-fn long_list() -> u64
-    ensures { result ≤ 1 }
+fn long_list(rt: &impl Print) -> io::Result<u64>
+    ensures { IfOk result (λ n. n ≤ 1) }
 {
     let offsets = [16777216; 4097];
     let sizes = [8; 4097];
     refuses(
-        b"refusal 3: 4,097 spans, before bad ones",
+        rt,
+        "refusal 3: 4,097 spans, before bad ones",
         &[0x12],
         8,
         &offsets,
@@ -230,11 +255,12 @@ fn long_list() -> u64
     )
 }
 
-fn unequal_slices() -> u64
-    ensures { result ≤ 1 }
+fn unequal_slices(rt: &impl Print) -> io::Result<u64>
+    ensures { IfOk result (λ n. n ≤ 1) }
 {
     refuses(
-        b"refusal 3: two offsets and one size",
+        rt,
+        "refusal 3: two offsets and one size",
         &[0x12],
         8,
         &[0, 8],
@@ -246,11 +272,12 @@ fn unequal_slices() -> u64
 }
 
 // The place is the one as lent; an absent offset is no fault, and an offset too high comes after.
-fn bad_span() -> u64
-    ensures { result ≤ 1 }
+fn bad_span(rt: &impl Print) -> io::Result<u64>
+    ensures { IfOk result (λ n. n ≤ 1) }
 {
     refuses(
-        b"refusal 3: span 2 ends past 16,777,216, before a high address",
+        rt,
+        "refusal 3: span 2 ends past 16,777,216, before a high address",
         &[0x12],
         8,
         &[16777208, ABSENT, 16777209, 16777216],
@@ -261,11 +288,12 @@ fn bad_span() -> u64
     )
 }
 
-fn past_32_bits() -> u64
-    ensures { result ≤ 1 }
+fn past_32_bits(rt: &impl Print) -> io::Result<u64>
+    ensures { IfOk result (λ n. n ≤ 1) }
 {
     refuses(
-        b"refusal 3: offset plus size of span 1 is 4,294,967,296",
+        rt,
+        "refusal 3: offset plus size of span 1 is 4,294,967,296",
         &[0x12],
         8,
         &[0, 8],
@@ -276,27 +304,29 @@ fn past_32_bits() -> u64
     )
 }
 
-fn no_room() -> u64
-    ensures { result ≤ 1 }
+fn no_room(rt: &impl Print) -> io::Result<u64>
+    ensures { IfOk result (λ n. n ≤ 1) }
 {
     let mut out = [OLD; 256];
     let answer = format_intelhex(&[0xab, 0xcf], 12, &[0], &[12], 8, &mut out[..26]);
     tell(
-        b"refusal 8: HEX in a room of 26",
+        rt,
+        "refusal 8: HEX in a room of 26",
         gave(answer, &out, 8, 27, b""),
     )
 }
 
 // A record published in descriptions of the format: 02 33 7A at address 0x30.
-fn published_record() -> u64
-    ensures { result ≤ 1 }
+fn published_record(rt: &impl Print) -> io::Result<u64>
+    ensures { IfOk result (λ n. n ≤ 1) }
 {
     let mut image = [0; 51];
     image[48] = 0x02;
     image[49] = 0x33;
     image[50] = 0x7a;
     writes(
-        b"HEX, published: 02 33 7A at address 30",
+        rt,
+        "HEX, published: 02 33 7A at address 30",
         &image,
         408,
         &[384],
@@ -307,11 +337,12 @@ fn published_record() -> u64
 }
 
 // The file in srec_intel(5) of Debian's srecord, which is derived from Intel's specification.
-fn published_by_srecord() -> u64
-    ensures { result ≤ 1 }
+fn published_by_srecord(rt: &impl Print) -> io::Result<u64>
+    ensures { IfOk result (λ n. n ≤ 1) }
 {
     writes(
-        b"HEX, published: the file of srec_intel(5)",
+        rt,
+        "HEX, published: the file of srec_intel(5)",
         b"Hello, World\n",
         104,
         &[0],
@@ -323,8 +354,8 @@ fn published_by_srecord() -> u64
 
 // The file hex_bug_lp_341051 that Debian's python3-intelhex carries, intelhex/test.py: bytes at
 // addresses 0xFEC and 0xFF0, with a gap between them.
-fn published_by_intelhex() -> u64
-    ensures { result ≤ 1 }
+fn published_by_intelhex(rt: &impl Print) -> io::Result<u64>
+    ensures { IfOk result (λ n. n ≤ 1) }
 {
     let mut image = [0; 4084];
     image[4076] = 0xe4;
@@ -334,7 +365,8 @@ fn published_by_intelhex() -> u64
     image[4082] = 0x22;
     image[4083] = 0xe1;
     writes(
-        b"HEX, published: a file of python3-intelhex",
+        rt,
+        "HEX, published: a file of python3-intelhex",
         &image,
         32672,
         &[32640, 32608],
@@ -345,29 +377,29 @@ fn published_by_intelhex() -> u64
 }
 
 // Runs them all, and answers how many came out.
-pub(crate) fn all() -> u64
-    ensures { result ≤ 21 }
+pub(crate) fn all(rt: &impl Print) -> io::Result<u64>
+    ensures { IfOk result (λ n. n ≤ 21) }
 {
-    let mut count = no_spans();
-    count += twelve_bits();
-    count += half_a_byte();
-    count += empty_span_after();
-    count += empty_span_before();
-    count += last_address();
-    count += past_the_last_address();
-    count += second_record();
-    count += absent_offset();
-    count += unit_of_two_bytes();
-    count += past_the_bytes();
-    count += no_unit();
-    count += large_unit();
-    count += long_list();
-    count += unequal_slices();
-    count += bad_span();
-    count += past_32_bits();
-    count += no_room();
-    count += published_record();
-    count += published_by_srecord();
-    count += published_by_intelhex();
-    count
+    let mut count = no_spans(rt)?;
+    count += twelve_bits(rt)?;
+    count += half_a_byte(rt)?;
+    count += empty_span_after(rt)?;
+    count += empty_span_before(rt)?;
+    count += last_address(rt)?;
+    count += past_the_last_address(rt)?;
+    count += second_record(rt)?;
+    count += absent_offset(rt)?;
+    count += unit_of_two_bytes(rt)?;
+    count += past_the_bytes(rt)?;
+    count += no_unit(rt)?;
+    count += large_unit(rt)?;
+    count += long_list(rt)?;
+    count += unequal_slices(rt)?;
+    count += bad_span(rt)?;
+    count += past_32_bits(rt)?;
+    count += no_room(rt)?;
+    count += published_record(rt)?;
+    count += published_by_srecord(rt)?;
+    count += published_by_intelhex(rt)?;
+    Ok(count)
 }

@@ -1,11 +1,12 @@
 // The annotated listing: what it shows, for an image of the bytes 12 34, of two spans where no other
 // number is named. The firmware's text is `nop`, the protocol's `ack`.
-ghost use Rattle.std.specs.Prelude.{◌≤◌, length};
+ghost use Rattle.std.specs.Prelude.{◌≤◌, length, IfOk};
 
 use crate::tell::{OLD, gave, tell};
 use listing::FormatAnnotatedOptions;
 use ordering::ABSENT;
 use outcome::Export;
+use std::io;
 
 // A span: its bits, its address, its file, and its start and end there.
 #[derive(Clone, Copy)]
@@ -99,23 +100,24 @@ pub(crate) fn list_two(
 
 // Tells whether two spans give the text.
 fn lists(
-    name: &[u8],
+    rt: &impl Print,
+    name: &str,
     bits: usize,
     a: Row,
     b: Row,
     options: FormatAnnotatedOptions,
     text: &[u8],
-) -> u64
+) -> io::Result<u64>
     requires { length text.now ≤ 256 }
-    ensures { result ≤ 1 }
+    ensures { IfOk result (λ n. n ≤ 1) }
 {
     let mut out = [OLD; 256];
     let answer = list_two(bits, a, b, options, &mut out);
-    tell(name, gave(answer, &out, 0, text.len(), text))
+    tell(rt, name, gave(answer, &out, 0, text.len(), text))
 }
 
-fn listing_row() -> u64
-    ensures { result ≤ 1 }
+fn listing_row(rt: &impl Print) -> io::Result<u64>
+    ensures { IfOk result (λ n. n ≤ 1) }
 {
     let mut out = [OLD; 256];
     let answer = annotated::format_annotated(
@@ -133,7 +135,8 @@ fn listing_row() -> u64
         &mut out,
     );
     tell(
-        b"listing, byte 12, span (0,8)",
+        rt,
+        "listing, byte 12, span (0,8)",
         gave(
             answer,
             &out,
@@ -144,8 +147,8 @@ fn listing_row() -> u64
     )
 }
 
-fn no_spans() -> u64
-    ensures { result ≤ 1 }
+fn no_spans(rt: &impl Print) -> io::Result<u64>
+    ensures { IfOk result (λ n. n ≤ 1) }
 {
     let mut out = [OLD; 256];
     let answer = annotated::format_annotated(
@@ -163,16 +166,18 @@ fn no_spans() -> u64
         &mut out,
     );
     tell(
-        b"listing, no spans: the heading alone",
+        rt,
+        "listing, no spans: the heading alone",
         gave(answer, &out, 0, 31, b" outp | addr | data (base 16)\n\n"),
     )
 }
 
-fn by_offset() -> u64
-    ensures { result ≤ 1 }
+fn by_offset(rt: &impl Print) -> io::Result<u64>
+    ensures { IfOk result (λ n. n ≤ 1) }
 {
     lists(
-        b"listing, spans (8,8) (0,8) by offset",
+        rt,
+        "listing, spans (8,8) (0,8) by offset",
         16,
         nop(8, 8),
         ack(0, 8, 0),
@@ -182,11 +187,12 @@ fn by_offset() -> u64
 }
 
 // Its address does not count in the width of the column.
-fn absent_first() -> u64
-    ensures { result ≤ 1 }
+fn absent_first(rt: &impl Print) -> io::Result<u64>
+    ensures { IfOk result (λ n. n ≤ 1) }
 {
     lists(
-        b"listing, an absent offset first",
+        rt,
+        "listing, an absent offset first",
         16,
         nop(8, 8),
         ack(ABSENT, 0, 0x12345),
@@ -195,11 +201,12 @@ fn absent_first() -> u64
     )
 }
 
-fn equal_offsets() -> u64
-    ensures { result ≤ 1 }
+fn equal_offsets(rt: &impl Print) -> io::Result<u64>
+    ensures { IfOk result (λ n. n ≤ 1) }
 {
     lists(
-        b"listing, equal offsets in the order lent",
+        rt,
+        "listing, equal offsets in the order lent",
         16,
         nop(0, 8),
         ack(0, 4, 0),
@@ -209,8 +216,8 @@ fn equal_offsets() -> u64
 }
 
 // Its widths count, and a file that there is not is no fault.
-fn hidden() -> u64
-    ensures { result ≤ 1 }
+fn hidden(rt: &impl Print) -> io::Result<u64>
+    ensures { IfOk result (λ n. n ≤ 1) }
 {
     let label = Row {
         offset: 16777216,
@@ -221,7 +228,8 @@ fn hidden() -> u64
         end: 0,
     };
     lists(
-        b"listing, labels off: an empty span is hidden and counts in the widths",
+        rt,
+        "listing, labels off: an empty span is hidden and counts in the widths",
         16,
         nop(0, 8),
         label,
@@ -230,11 +238,12 @@ fn hidden() -> u64
     )
 }
 
-fn label() -> u64
-    ensures { result ≤ 1 }
+fn label(rt: &impl Print) -> io::Result<u64>
+    ensures { IfOk result (λ n. n ≤ 1) }
 {
     lists(
-        b"listing, labels on: the same span is shown",
+        rt,
+        "listing, labels on: the same span is shown",
         16,
         nop(0, 8),
         ack(16777216, 0, 0x12345),
@@ -243,11 +252,12 @@ fn label() -> u64
     )
 }
 
-fn base_of_ten() -> u64
-    ensures { result ≤ 1 }
+fn base_of_ten(rt: &impl Print) -> io::Result<u64>
+    ensures { IfOk result (λ n. n ≤ 1) }
 {
     lists(
-        b"listing, address base 10, the highest address",
+        rt,
+        "listing, address base 10, the highest address",
         16,
         nop(0, 8),
         ack(800, 8, 18446744073709551615),
@@ -257,11 +267,12 @@ fn base_of_ten() -> u64
 }
 
 // The column is as wide as the digits and a space for each whole group, less one: here 6.
-fn bases_of_two() -> u64
-    ensures { result ≤ 1 }
+fn bases_of_two(rt: &impl Print) -> io::Result<u64>
+    ensures { IfOk result (λ n. n ≤ 1) }
 {
     lists(
-        b"listing, both bases 2: a bit number of three digits",
+        rt,
+        "listing, both bases 2: a bit number of three digits",
         16,
         nop(15, 1),
         ack(0, 6, 3),
@@ -270,11 +281,12 @@ fn bases_of_two() -> u64
     )
 }
 
-fn past_the_end() -> u64
-    ensures { result ≤ 1 }
+fn past_the_end(rt: &impl Print) -> io::Result<u64>
+    ensures { IfOk result (λ n. n ≤ 1) }
 {
     lists(
-        b"listing, 14 bits: a digit with a bit past the end is a point",
+        rt,
+        "listing, 14 bits: a digit with a bit past the end is a point",
         14,
         nop(8, 8),
         ack(14, 4, 0),
@@ -283,11 +295,12 @@ fn past_the_end() -> u64
     )
 }
 
-fn base_of_thirty_two() -> u64
-    ensures { result ≤ 1 }
+fn base_of_thirty_two(rt: &impl Print) -> io::Result<u64>
+    ensures { IfOk result (λ n. n ≤ 1) }
 {
     lists(
-        b"listing, base 32: the last digit takes the bits after the span",
+        rt,
+        "listing, base 32: the last digit takes the bits after the span",
         16,
         nop(0, 16),
         ack(0, 6, 0),
@@ -296,11 +309,12 @@ fn base_of_thirty_two() -> u64
     )
 }
 
-fn five_groups() -> u64
-    ensures { result ≤ 1 }
+fn five_groups(rt: &impl Print) -> io::Result<u64>
+    ensures { IfOk result (λ n. n ≤ 1) }
 {
     lists(
-        b"listing, five groups widen the column",
+        rt,
+        "listing, five groups widen the column",
         16,
         nop(0, 20),
         ack(0, 4, 0),
@@ -309,11 +323,12 @@ fn five_groups() -> u64
     )
 }
 
-fn six_groups() -> u64
-    ensures { result ≤ 1 }
+fn six_groups(rt: &impl Print) -> io::Result<u64>
+    ensures { IfOk result (λ n. n ≤ 1) }
 {
     lists(
-        b"listing, six groups do not",
+        rt,
+        "listing, six groups do not",
         16,
         nop(0, 24),
         ack(0, 4, 0),
@@ -322,11 +337,12 @@ fn six_groups() -> u64
     )
 }
 
-fn parts_of_texts() -> u64
-    ensures { result ≤ 1 }
+fn parts_of_texts(rt: &impl Print) -> io::Result<u64>
+    ensures { IfOk result (λ n. n ≤ 1) }
 {
     lists(
-        b"listing, a part of the protocol's text, and an empty one of the firmware's",
+        rt,
+        "listing, a part of the protocol's text, and an empty one of the firmware's",
         16,
         part(1, 1, 3),
         part(0, 3, 3),
@@ -336,22 +352,22 @@ fn parts_of_texts() -> u64
 }
 
 // Runs them all, and answers how many came out.
-pub(crate) fn all() -> u64
-    ensures { result ≤ 14 }
+pub(crate) fn all(rt: &impl Print) -> io::Result<u64>
+    ensures { IfOk result (λ n. n ≤ 14) }
 {
-    let mut count = listing_row();
-    count += no_spans();
-    count += by_offset();
-    count += absent_first();
-    count += equal_offsets();
-    count += hidden();
-    count += label();
-    count += base_of_ten();
-    count += bases_of_two();
-    count += past_the_end();
-    count += base_of_thirty_two();
-    count += five_groups();
-    count += six_groups();
-    count += parts_of_texts();
-    count
+    let mut count = listing_row(rt)?;
+    count += no_spans(rt)?;
+    count += by_offset(rt)?;
+    count += absent_first(rt)?;
+    count += equal_offsets(rt)?;
+    count += hidden(rt)?;
+    count += label(rt)?;
+    count += base_of_ten(rt)?;
+    count += bases_of_two(rt)?;
+    count += past_the_end(rt)?;
+    count += base_of_thirty_two(rt)?;
+    count += five_groups(rt)?;
+    count += six_groups(rt)?;
+    count += parts_of_texts(rt)?;
+    Ok(count)
 }

@@ -4,6 +4,7 @@
 // $readmemb and $readmemh, and the documents of MIF and Logisim were not at hand: no example of their
 // own is run here.
 #![tactic(auto)]
+
 mod dumps;
 mod hex;
 mod listing_refusals;
@@ -14,39 +15,40 @@ mod plain;
 mod records;
 mod tell;
 
-fn main() {
-    let mut count = plain::hexstr_row();
-    count += plain::readmemh_row();
-    count += plain::readmemb_row();
-    count += plain::past_the_bytes();
-    count += plain::past_the_largest();
-    count += plain::readmemb_no_width();
-    count += plain::readmemh_no_width();
-    count += plain::readmemh_wide();
-    count += plain::str_of_six_bits();
-    count += plain::empty_image();
-    count += plain::no_room();
-    count += plain::binary_padded();
-    count += lists::c_array_row();
-    count += lists::list_row();
-    count += lists::second_string();
-    count += lists::line_of_sixteen();
-    count += lists::empty_array();
-    count += lists::radix_before_empty();
-    count += lists::long_separator();
-    count += lists::second_string_at_no_place();
-    count += memory::mif_row();
-    count += memory::logisim_row();
-    count += memory::empty_mif();
-    count += memory::logisim_no_chunk();
-    count += dumps::hexdump_row();
-    count += dumps::one_line_of_129_bits();
-    count += dumps::bindump_of_three_bits();
-    count += dumps::bytes_of_nine_bits();
-    count += hex::all();
-    count += listings::all();
-    count += listing_refusals::all();
-    count += records::all();
-    io::print_decimal(1, count);
-    io::write_all(1, b" examples came out\n");
+use std::io;
+
+fn main(rt: HostRuntime) -> io::Result<()> {
+    let mut count = plain::hexstr_row(&rt)?;
+    count += plain::readmemh_row(&rt)?;
+    count += plain::readmemb_row(&rt)?;
+    count += plain::past_the_bytes(&rt)?;
+    count += plain::past_the_largest(&rt)?;
+    count += plain::readmemb_no_width(&rt)?;
+    count += plain::readmemh_no_width(&rt)?;
+    count += plain::readmemh_wide(&rt)?;
+    count += plain::str_of_six_bits(&rt)?;
+    count += plain::empty_image(&rt)?;
+    count += plain::no_room(&rt)?;
+    count += plain::binary_padded(&rt)?;
+    count += lists::c_array_row(&rt)?;
+    count += lists::list_row(&rt)?;
+    count += lists::second_string(&rt)?;
+    count += lists::line_of_sixteen(&rt)?;
+    count += lists::empty_array(&rt)?;
+    count += lists::radix_before_empty(&rt)?;
+    count += lists::long_separator(&rt)?;
+    count += lists::second_string_at_no_place(&rt)?;
+    count += memory::mif_row(&rt)?;
+    count += memory::logisim_row(&rt)?;
+    count += memory::empty_mif(&rt)?;
+    count += memory::logisim_no_chunk(&rt)?;
+    count += dumps::hexdump_row(&rt)?;
+    count += dumps::one_line_of_129_bits(&rt)?;
+    count += dumps::bindump_of_three_bits(&rt)?;
+    count += dumps::bytes_of_nine_bits(&rt)?;
+    count += hex::all(&rt)?;
+    count += listings::all(&rt)?;
+    count += listing_refusals::all(&rt)?;
+    count += records::all(&rt)?;
+    println!(rt; "{count} examples came out")
 }

@@ -1,15 +1,17 @@
 // The memory files: the memory initialization file and the image of Logisim.
-ghost use Rattle.std.specs.Prelude.{◌≤◌};
+ghost use Rattle.std.specs.Prelude.{◌≤◌, IfOk};
 
 use crate::tell::{OLD, gave, tell};
+use std::io;
 
-pub(crate) fn mif_row() -> u64
-    ensures { result ≤ 1 }
+pub(crate) fn mif_row(rt: &impl Print) -> io::Result<u64>
+    ensures { IfOk result (λ n. n ≤ 1) }
 {
     let mut out = [OLD; 256];
     let answer = format_mif::format_mif(&[0x12], 8, &mut out);
     tell(
-        b"MIF, byte 12",
+        rt,
+        "MIF, byte 12",
         gave(
             answer,
             &out,
@@ -20,32 +22,38 @@ pub(crate) fn mif_row() -> u64
     )
 }
 
-pub(crate) fn logisim_row() -> u64
-    ensures { result ≤ 1 }
+pub(crate) fn logisim_row(rt: &impl Print) -> io::Result<u64>
+    ensures { IfOk result (λ n. n ≤ 1) }
 {
     let mut out = [OLD; 256];
     let answer = format_logisim::format_logisim(&[0x12], 8, 4, &mut out);
     tell(
-        b"Logisim chunk 4, byte 12",
+        rt,
+        "Logisim chunk 4, byte 12",
         gave(answer, &out, 0, 14, b"v2.0 raw\n1 \n2 "),
     )
 }
 
-pub(crate) fn empty_mif() -> u64
-    ensures { result ≤ 1 }
+pub(crate) fn empty_mif(rt: &impl Print) -> io::Result<u64>
+    ensures { IfOk result (λ n. n ≤ 1) }
 {
     let mut out = [OLD; 256];
     let answer = format_mif::format_mif(b"", 0, &mut out);
     tell(
-        b"refusal 4: MIF of an empty image",
+        rt,
+        "refusal 4: MIF of an empty image",
         gave(answer, &out, 4, 0, b""),
     )
 }
 
-pub(crate) fn logisim_no_chunk() -> u64
-    ensures { result ≤ 1 }
+pub(crate) fn logisim_no_chunk(rt: &impl Print) -> io::Result<u64>
+    ensures { IfOk result (λ n. n ≤ 1) }
 {
     let mut out = [OLD; 256];
     let answer = format_logisim::format_logisim(&[0x12], 8, 0, &mut out);
-    tell(b"refusal 2: Logisim chunk 0", gave(answer, &out, 2, 0, b""))
+    tell(
+        rt,
+        "refusal 2: Logisim chunk 0",
+        gave(answer, &out, 2, 0, b""),
+    )
 }

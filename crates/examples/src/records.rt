@@ -1,12 +1,13 @@
 // Intel HEX, the listing and the blocks of span records, which are lent as a slice: rows of document
 // 01, an offset that only the numbers of the core take for absent, and lists that are too long. The
 // image is the bytes 11 22.
-ghost use Rattle.std.specs.Prelude.{◌≤◌, length, ◌≡◌};
+ghost use Rattle.std.specs.Prelude.{◌≤◌, length, ◌≡◌, IfOk};
 
 use crate::listings::sixteen;
 use crate::tell::{OLD, gave, tell};
 use blocks::Blocks;
 use spans::{Location, Offset, Span};
+use std::io;
 
 // A span at an offset, without a location.
 fn bare(offset: Offset, size: u32) -> Span {
@@ -35,26 +36,33 @@ fn three(a: Span, b: Span, c: Span) -> [Span; 4098] {
 }
 
 // Tells whether the first `count` records give the text.
-fn writes(name: &[u8], spans: [Span; 4098], count: usize, text: &[u8]) -> u64
+fn writes(
+    rt: &impl Print,
+    name: &str,
+    spans: [Span; 4098],
+    count: usize,
+    text: &[u8],
+) -> io::Result<u64>
     requires { length text.now ≤ 256 }
-    ensures { result ≤ 1 }
+    ensures { IfOk result (λ n. n ≤ 1) }
 {
     let mut out = [OLD; 256];
     let answer = arrays_of_spans::format_intelhex(&[0x11, 0x22], 16, spans, count, 8, &mut out);
-    tell(name, gave(answer, &out, 0, text.len(), text))
+    tell(rt, name, gave(answer, &out, 0, text.len(), text))
 }
 
 // Tells whether they give the refusal.
 fn refuses(
-    name: &[u8],
+    rt: &impl Print,
+    name: &str,
     bits: usize,
     spans: [Span; 4098],
     count: usize,
     unit: usize,
     number: u32,
     value: usize,
-) -> u64
-    ensures { result ≤ 1 }
+) -> io::Result<u64>
+    ensures { IfOk result (λ n. n ≤ 1) }
 {
     let mut out = [OLD; 256];
     let answer = arrays_of_spans::format_intelhex(
@@ -65,46 +73,50 @@ fn refuses(
         unit,
         &mut out,
     );
-    tell(name, gave(answer, &out, number, value, b""))
+    tell(rt, name, gave(answer, &out, number, value, b""))
 }
 
-fn rows() -> u64
-    ensures { result ≤ 4 }
+fn rows(rt: &impl Print) -> io::Result<u64>
+    ensures { IfOk result (λ n. n ≤ 4) }
 {
     let empty = bare(Offset::At(0), 0);
     let one = bare(Offset::At(0), 8);
     let two = bare(Offset::At(8), 8);
     let none = bare(Offset::Absent, 4294967295);
-    let mut count = writes(b"records: HEX, no spans", many(one), 0, b":00000001FF");
+    let mut count = writes(rt, "records: HEX, no spans", many(one), 0, b":00000001FF")?;
     count += writes(
-        b"records: HEX, bytes 11 22, spans (0,8) (0,0) (8,8)",
+        rt,
+        "records: HEX, bytes 11 22, spans (0,8) (0,0) (8,8)",
         three(one, empty, two),
         3,
         b":0100000011EE\n:0100010022DC\n:00000001FF",
-    );
+    )?;
     count += writes(
-        b"records: HEX, bytes 11 22, spans (0,0) (0,8) (8,8)",
+        rt,
+        "records: HEX, bytes 11 22, spans (0,0) (0,8) (8,8)",
         three(empty, one, two),
         3,
         b":020000001122CB\n:00000001FF",
-    );
+    )?;
     count += writes(
-        b"records: HEX, 4,096 of them, absent but for one",
+        rt,
+        "records: HEX, 4,096 of them, absent but for one",
         three(none, one, none),
         4096,
         b":0100000011EE\n:00000001FF",
-    );
-    count
+    )?;
+    Ok(count)
 }
 
 // The largest number is an offset like any other here, and too large.
-fn largest_offset() -> u64
-    ensures { result ≤ 1 }
+fn largest_offset(rt: &impl Print) -> io::Result<u64>
+    ensures { IfOk result (λ n. n ≤ 1) }
 {
     let one = bare(Offset::At(0), 8);
     let largest = bare(Offset::At(4294967295), 0);
     refuses(
-        b"records: refusal 3, a present offset of 4,294,967,295",
+        rt,
+        "records: refusal 3, a present offset of 4,294,967,295",
         16,
         three(one, largest, largest),
         3,
@@ -115,60 +127,65 @@ fn largest_offset() -> u64
 }
 
 // Lists of more spans than are allowed, and of more than are looked at.
-fn long_lists() -> u64
-    ensures { result ≤ 4 }
+fn long_lists(rt: &impl Print) -> io::Result<u64>
+    ensures { IfOk result (λ n. n ≤ 4) }
 {
     let bad = bare(Offset::At(16777216), 8);
     let mut count = refuses(
-        b"records: refusal 3, 4,097 of them, before bad ones",
+        rt,
+        "records: refusal 3, 4,097 of them, before bad ones",
         16,
         many(bad),
         4097,
         8,
         3,
         4096,
-    );
+    )?;
     count += refuses(
-        b"records: refusal 3, 4,098 of them",
+        rt,
+        "records: refusal 3, 4,098 of them",
         16,
         many(bad),
         4098,
         8,
         3,
         4096,
-    );
+    )?;
     count += refuses(
-        b"records: refusal 2, unit 65, before 4,098 of them",
+        rt,
+        "records: refusal 2, unit 65, before 4,098 of them",
         16,
         many(bad),
         4098,
         65,
         2,
         0,
-    );
+    )?;
     count += refuses(
-        b"records: refusal 1, 17 bits of two bytes, before 4,098 of them",
+        rt,
+        "records: refusal 1, 17 bits of two bytes, before 4,098 of them",
         17,
         many(bad),
         4098,
         65,
         1,
         0,
-    );
-    count
+    )?;
+    Ok(count)
 }
 
 // Tells what the listing of the first `count` records gives.
 fn lists(
-    name: &[u8],
+    rt: &impl Print,
+    name: &str,
     spans: [Span; 4098],
     count: usize,
     number: u32,
     value: usize,
     text: &[u8],
-) -> u64
+) -> io::Result<u64>
     requires { length text.now ≤ 256 }
-    ensures { result ≤ 1 }
+    ensures { IfOk result (λ n. n ≤ 1) }
 {
     let mut out = [OLD; 256];
     let answer = arrays_of_spans::format_annotated(
@@ -181,11 +198,11 @@ fn lists(
         sixteen(0),
         &mut out,
     );
-    tell(name, gave(answer, &out, number, value, text))
+    tell(rt, name, gave(answer, &out, number, value, text))
 }
 
-fn listings() -> u64
-    ensures { result ≤ 4 }
+fn listings(rt: &impl Print) -> io::Result<u64>
+    ensures { IfOk result (λ n. n ≤ 4) }
 {
     let nop = Span {
         offset: Offset::At(0),
@@ -195,43 +212,47 @@ fn listings() -> u64
         location: Location::In(0, 3),
     };
     let mut count = lists(
-        b"records: listing, byte 12, span (0,8)",
+        rt,
+        "records: listing, byte 12, span (0,8)",
         many(nop),
         1,
         0,
         55,
         b" outp | addr | data (base 16)\n\n  0:0 |    0 | 12 ; nop\n",
-    );
+    )?;
     count += lists(
-        b"records: refusal 7, no location",
+        rt,
+        "records: refusal 7, no location",
         three(nop, bare(Offset::At(0), 8), nop),
         3,
         7,
         1,
         b"",
-    );
+    )?;
     count += lists(
-        b"records: refusal 3, listing, a present offset of 4,294,967,295",
+        rt,
+        "records: refusal 3, listing, a present offset of 4,294,967,295",
         three(nop, nop, bare(Offset::At(4294967295), 0)),
         3,
         3,
         2,
         b"",
-    );
+    )?;
     count += lists(
-        b"records: refusal 3, listing of 4,098 of them",
+        rt,
+        "records: refusal 3, listing of 4,098 of them",
         many(nop),
         4098,
         3,
         4096,
         b"",
-    );
-    count
+    )?;
+    Ok(count)
 }
 
 // One block of two spans that touch.
-fn one_block() -> u64
-    ensures { result ≤ 1 }
+fn one_block(rt: &impl Print) -> io::Result<u64>
+    ensures { IfOk result (λ n. n ≤ 1) }
 {
     let one = bare(Offset::At(0), 8);
     let two = bare(Offset::At(8), 4);
@@ -246,19 +267,20 @@ fn one_block() -> u64
     };
     let placed = offsets[0] == 0 && sizes[0] == 12 && offsets[1] == 7 && sizes[1] == 7;
     tell(
-        b"records: blocks, spans (8,4) (absent) (0,8)",
+        rt,
+        "records: blocks, spans (8,4) (absent) (0,8)",
         one_found && placed,
     )
 }
 
 // Runs them all, and answers how many came out.
-pub(crate) fn all() -> u64
-    ensures { result ≤ 14 }
+pub(crate) fn all(rt: &impl Print) -> io::Result<u64>
+    ensures { IfOk result (λ n. n ≤ 14) }
 {
-    let mut count = rows();
-    count += largest_offset();
-    count += long_lists();
-    count += listings();
-    count += one_block();
-    count
+    let mut count = rows(rt)?;
+    count += largest_offset(rt)?;
+    count += long_lists(rt)?;
+    count += listings(rt)?;
+    count += one_block(rt)?;
+    Ok(count)
 }

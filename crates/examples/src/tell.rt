@@ -1,22 +1,22 @@
 // What an example expects, and whether it came.
-ghost use Rattle.std.specs.Prelude.{◌≤◌, length};
+ghost use Rattle.std.specs.Prelude.{◌≤◌, length, IfOk};
 
 use outcome::Export;
+use std::io;
 
 // What stands in the output buffer before a call.
 pub(crate) const OLD: u8 = 90;
 
 // Prints whether an example came out, and answers 1 where it did.
-pub(crate) fn tell(name: &[u8], ok: bool) -> u64
-    ensures { result ≤ 1 }
+pub(crate) fn tell(rt: &impl Print, name: &str, ok: bool) -> io::Result<u64>
+    ensures { IfOk result (λ n. n ≤ 1) }
 {
-    io::write_all(1, name);
     if ok {
-        io::write_all(1, b": ok\n");
-        return 1;
+        println!(rt; "{name}: ok")?;
+        return Ok(1);
     }
-    io::write_all(1, b": WRONG\n");
-    0
+    println!(rt; "{name}: WRONG")?;
+    Ok(0)
 }
 
 // Whether the answer has the number and the value, and the buffer the text at its front and its old
@@ -26,5 +26,5 @@ pub(crate) fn gave(answer: Export, out: &[u8; 256], number: u32, value: usize, t
 {
     let mut expected = [OLD; 256];
     output::put_all(&mut expected, 0, text);
-    answer.number() == number && answer.value() == value && check::same(out, &expected)
+    answer.number() == number && answer.value() == value && *out == expected
 }

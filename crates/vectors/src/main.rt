@@ -3,8 +3,8 @@
 // STRING2 STRING3 STRING4 BITS IMAGE TEXT`, numbers in decimal, bytes in hexadecimal, `-` for none.
 // Prints a line with a count for each exporter, and for those that take spans one through records.
 #![tactic(auto)]
+
 ghost use Rattle.std.specs.Prelude.{◌+◌, ◌≤◌, ◌<◌, length, ◌≡◌};
-ghost use Rattle.io.specs.Counts.{IsPrefixLen};
 
 mod records;
 
@@ -12,6 +12,8 @@ use format_dump::DumpOptions;
 use format_list::FormatListOptions;
 use listing::FormatAnnotatedOptions;
 use outcome::Export;
+use std::io;
+use std::io::Read;
 
 // What stands in the output buffer before a call.
 const OLD: u8 = 90;
@@ -92,7 +94,7 @@ fn number(s: &[u8], at: usize) -> Parsed {
 
 // Puts the bytes at `at` into the front of `out` and answers how many there are.
 fn bytes(s: &[u8], at: usize, out: &mut [u8]) -> usize
-    ensures { IsPrefixLen result out.new }
+    ensures { result ≤ length out.new }
 {
     let mut n = 0;
     let mut i = at;
@@ -417,7 +419,7 @@ fn agrees(s: &[u8], line: Line, text: &[u8], out: &mut [u8], expected: &mut [u8]
     prepare(out, b"");
     let answer = export(s, line, out);
     let number = if text.len() <= out.len() { 0 } else { 8 };
-    answer.number() == number && answer.value() == text.len() && check::same(out, expected)
+    answer.number() == number && answer.value() == text.len() && *out == *expected
 }
 
 // Whether a call into a room of `room` bytes agrees.
@@ -471,7 +473,7 @@ fn replayed(s: &[u8], at: usize, kind: u8) -> u64
 }
 
 // Replays the answers of one exporter and prints how many were equal.
-fn report(name: &[u8], s: &[u8], kind: u8) {
+fn report(rt: &impl Print, name: &str, s: &[u8], kind: u8) -> io::Result<()> {
     let mut lines: u64 = 0;
     let mut equal: u64 = 0;
     let mut at = 0;
@@ -480,37 +482,24 @@ fn report(name: &[u8], s: &[u8], kind: u8) {
         equal += replayed(s, at, kind);
         at = skip(s, at, b'\n');
     }
-    io::write_all(1, name);
-    io::write_all(1, b": ");
-    io::print_decimal(1, equal);
-    io::write_all(1, b" of ");
-    io::print_decimal(1, lines);
-    io::write_all(1, b" recorded answers equal\n");
+    println!(rt; "{name}: {equal} of {lines} recorded answers equal")
 }
 
-// Room for the record. The `ensures` gives the length, which lending the array as a slice needs.
-fn buffer() -> [u8; 524288]
-    ensures { 524288 ≡ length result }
-{
-    [0; 524288]
-}
-
-fn main() {
-    let mut record = buffer();
-    let n = io::read_full(0, &mut record);
-    let s = &record[..n];
-    report(b"format_binary", s, b'b');
-    report(b"format_str", s, b's');
-    report(b"format_readmemb", s, b'm');
-    report(b"format_readmemh", s, b'h');
-    report(b"format_separator", s, b'p');
-    report(b"format_c_array", s, b'c');
-    report(b"format_list", s, b'l');
-    report(b"format_mif", s, b'i');
-    report(b"format_logisim", s, b'g');
-    report(b"format_dump", s, b'd');
-    report(b"format_intelhex", s, b'x');
-    report(b"format_annotated", s, b'a');
-    report(b"format_intelhex over records", s, b'X');
-    report(b"format_annotated over records", s, b'A');
+fn main(rt: HostRuntime) -> io::Result<()> {
+    let mut record = Vec::new(rt.alloc());
+    rt.stdin().read_to_end(&mut record)?;
+    report(&rt, "format_binary", &record, b'b')?;
+    report(&rt, "format_str", &record, b's')?;
+    report(&rt, "format_readmemb", &record, b'm')?;
+    report(&rt, "format_readmemh", &record, b'h')?;
+    report(&rt, "format_separator", &record, b'p')?;
+    report(&rt, "format_c_array", &record, b'c')?;
+    report(&rt, "format_list", &record, b'l')?;
+    report(&rt, "format_mif", &record, b'i')?;
+    report(&rt, "format_logisim", &record, b'g')?;
+    report(&rt, "format_dump", &record, b'd')?;
+    report(&rt, "format_intelhex", &record, b'x')?;
+    report(&rt, "format_annotated", &record, b'a')?;
+    report(&rt, "format_intelhex over records", &record, b'X')?;
+    report(&rt, "format_annotated over records", &record, b'A')
 }

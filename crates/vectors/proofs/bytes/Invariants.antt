@@ -1,3 +1,5 @@
+-- `vectors::bytes` meets its contract: the count stays within the buffer.
+-- Assumes nothing.
 use mathlib.Core.Path.{◌≡◌}
 use Prim.Native.Nat.{◌-◌, ◌≤◌}
 use lib.ListN.{length}
