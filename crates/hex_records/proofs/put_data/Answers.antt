@@ -10,7 +10,8 @@ put_whole-requires c =
 
 pub returns-then-all_whole : goal.returns-then-all_whole
 returns-then-all_whole c =
-    rw (← (c.all_whole.ensures c.if-all_whole.true).0) c.put_whole.ensures
+    let from = (c.all_whole.ensures c.if-all_whole.true).0 in
+    record { sum = rw (← from) c.put_whole.ensures.sum; stored = rw (← from) c.put_whole.ensures.stored }
 
 pub put_shifted-requires : goal.put_shifted-requires
 put_shifted-requires c =
@@ -20,4 +21,4 @@ pub returns-then-all_inside : goal.returns-then-all_inside
 returns-then-all_inside c =
     let i = c.args.from.0 in
     let place : i / 8 * 8 + i % 8 ≡ i = omega arith in
-    rw place at c.put_shifted.ensures
+    record { sum = rw place at c.put_shifted.ensures.sum; stored = rw place at c.put_shifted.ensures.stored }

@@ -47,8 +47,8 @@ returns c =
     let d = bytes_from a.bytes.now a.len a.from.0 a.count in
     checksum_is (head ++ d) c.put_data-sum.result c.wrapping_sub_u8.result
     (omega (arith, c.put_data-sum.ensures.sum, c.head_sum.ensures, total_append head d))
-    (omega (arith, c.wrapping_sub_u8.type-inv))
-    c.wrapping_sub_u8.ensures in
+    (omega (arith, c.wrapping_sub_u8.type_inv))
+    c.wrapping_sub_u8.ensures.value in
     let data_written : let a = c.args in let d = bytes_from a.bytes.now a.len a.from.0 a.count in Writes (hex_bytes d) c.put_head-data.new.out c.put_head-data.result c.put_data-sum.new.out (c.put_head-data.result + 2 * a.count) = let a = c.args in
     let d = bytes_from a.bytes.now a.len a.from.0 a.count in
     record { next = omega (arith, hex_length d, bytes_length a.bytes.now a.len a.from.0 a.count); stored = c.put_data-sum.ensures.stored } in

@@ -41,4 +41,4 @@ pub returns : goal.returns
 returns c =
     let l = c.loop-k in
     let done : l.k ≡ c.args.count = omega arith in
-    rw (← done) (l.invariant.2, l.invariant.3.stored)
+    record { sum = rw (← done) l.invariant.2; stored = rw (← done) l.invariant.3.stored }
