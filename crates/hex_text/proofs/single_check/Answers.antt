@@ -10,6 +10,6 @@ unfolding total
 returns c =
     let a = c.args in
     checksum_is (1 ∷ a.high ∷ a.low ∷ 0 ∷ a.byte ∷ []) c.wrapping_add_u8-sum.result c.wrapping_sub_u8.result
-    (omega (arith, c.wrapping_add_u8-sum.ensures, c.wrapping_add_u8-2.ensures, c.wrapping_add_u8.ensures))
-    (omega (arith, c.wrapping_sub_u8.type-inv))
-    c.wrapping_sub_u8.ensures
+    (omega (arith, c.wrapping_add_u8-sum.ensures.value, c.wrapping_add_u8-2.ensures, c.wrapping_add_u8.ensures))
+    (omega (arith, c.wrapping_sub_u8.type_inv))
+    c.wrapping_sub_u8.ensures.value

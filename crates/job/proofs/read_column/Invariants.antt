@@ -7,7 +7,7 @@ use Rattle.job.specs.Job.{word}
 use Rattle.job.proofs.read_column.Given as goal
 
 abbrev pub invariant-loop-k : goal.invariant-loop-k
-invariant-loop-k l = (l.k ≤ length l.initial.to) × (l.to ≡ sets l.initial.to 0 (table (λ l.k. word l.job (l.at + 8 * l.k)) l.k)) × (length l.to ≡ length l.initial.to)
+invariant-loop-k l = (l.k ≤ length l.initial.to) × (l.to ≡ sets l.initial.to 0 (table (λ k. word l.job (l.at + 8 * k)) l.k)) × (length l.to ≡ length l.initial.to)
 
 abbrev pub decreases-loop-k : goal.decreases-loop-k
 decreases-loop-k l = length l.initial.to - l.k
