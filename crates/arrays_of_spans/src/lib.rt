@@ -1,6 +1,7 @@
 // The functions over a slice of span records, for a program that has its records in an array by
 // value: the first `count` of them are lent, or all where there are no more.
 #![tactic(auto)]
+
 ghost use Rattle.std.specs.Prelude.{length, take};
 ghost use Rattle.outcome.specs.Outcome.{Exports};
 ghost use Rattle.blocks.specs.Blocks.{blocks_found, Finds};

@@ -1,6 +1,7 @@
 // The blocks of a slice of span records, and their Intel HEX export (document 01, "Forms to follow"):
 // each function copies the offsets and the sizes of the records, and calls the core on these.
 #![tactic(auto)]
+
 ghost use Rattle.std.specs.Prelude.{◌≡◌, false, ◌≤◌, length, take};
 ghost use Rattle.bitvec.specs.Size.{bad_size};
 ghost use Rattle.outcome.specs.Outcome.{Exports};

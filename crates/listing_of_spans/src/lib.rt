@@ -1,6 +1,7 @@
 // The annotated listing of a slice of span records (document 01, "Forms to follow"): the numbers of the
 // records are copied, and the core is called on these.
 #![tactic(auto)]
+
 ghost use Rattle.std.specs.Prelude.{◌≤◌, length, take};
 ghost use Rattle.outcome.specs.Outcome.{Exports};
 ghost use Rattle.listing.specs.Listing.{spans_of};
