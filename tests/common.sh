@@ -2,7 +2,7 @@
 # repository's folder and $target the program's own folder below target/.
 #
 #   CI                 where it is set, a check that cannot run is a failure
-#   RICESHOAL_LIB_DIR  the folder of libcapi.a; where it is not set, target/staticlib
+#   RICESHOAL_LIB_DIR  the folder of libcapi.a; where it is not set, crates/capi/out
 #   CUSTOMASM_SRC      the Rust's folder; where it is not set, ../shared/docs/src/src
 registry=/usr/share/cargo/registry
 
@@ -21,24 +21,32 @@ not_run() {
 # Whether a file that rt made is missing, or older than a source.
 is_missing() {
     [ ! -f "$1" ] ||
-        [ -n "$(find "$root/crates" "$root/crates.txt" -newer "$1" \( -name '*.rt' -o -name '*.antt' -o -name crates.txt \) | head -n 1)" ]
+        [ -n "$(find "$root/crates" "$root/crates.txt" -name out -prune -o -newer "$1" \
+            \( -name '*.rt' -o -name '*.antt' -o -name crates.txt \) -print | head -n 1)" ]
 }
 
-# Sets RICESHOAL_LIB_DIR to the folder of libcapi.a, which is made where it is missing. `rt check`
-# proves crates side by side, `rt staticlib` one after the other; crates that are proved already are
-# not proved again, but for capi itself.
+# Runs rt in a crate's folder, on its stdin where it has one, to make a file below its out/ where that
+# is missing: what it is for, the crate, the file, rt's words.
+make_file() {
+    file=$root/crates/$2/out/$3
+    if is_missing "$file"; then
+        mkdir -p "$root/target"
+        echo "$1: rt $4 in crates/$2" >&2
+        input=$root/crates/$2/stdin
+        [ -f "$input" ] || input=/dev/null
+        if ! (cd "$root/crates/$2" && rt "$4" <"$input") >"$root/target/$2.log" 2>&1; then
+            tail -n 20 "$root/target/$2.log"
+            echo "$1: $3 was not made"
+            exit 1
+        fi
+    fi
+}
+
+# Sets RICESHOAL_LIB_DIR to the folder of libcapi.a, which is made where it is missing.
 find_library() {
     if [ -z "${RICESHOAL_LIB_DIR:-}" ]; then
-        RICESHOAL_LIB_DIR=$root/target/staticlib
-        if is_missing "$RICESHOAL_LIB_DIR/libcapi.a"; then
-            mkdir -p "$root/target"
-            echo "$1: rt staticlib capi" >&2
-            if ! (cd "$root" && rt check capi && rt staticlib capi) >"$root/target/staticlib.log" 2>&1; then
-                tail -n 20 "$root/target/staticlib.log"
-                echo "$1: the static library was not made"
-                exit 1
-            fi
-        fi
+        make_file "$1" capi libcapi.a lib
+        RICESHOAL_LIB_DIR=$root/crates/capi/out
     fi
     RICESHOAL_LIB_DIR=$(CDPATH= cd -- "$RICESHOAL_LIB_DIR" && pwd -P)
     export RICESHOAL_LIB_DIR

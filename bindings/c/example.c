@@ -6,7 +6,7 @@
  * exports three bytes of its own. A refusal is printed to stderr with its number and its words, and
  * the program returns 1. To build it, from the root of the repository:
  *
- *   cc -I include bindings/c/example.c target/staticlib/libcapi.a -o example
+ *   cc -I include bindings/c/example.c crates/capi/out/libcapi.a -o example
  */
 #include <stdio.h>
 #include <stdlib.h>

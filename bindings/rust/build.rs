@@ -1,5 +1,5 @@
 //! Finds libcapi.a and links it. It is looked for in the folder that RICESHOAL_LIB_DIR names, or
-//! else in the repository's target/staticlib, where `rt staticlib capi` makes it if there is none.
+//! else in the repository's crates/capi/out, where `rt lib` makes it if there is none.
 
 use std::env;
 use std::path::{Path, PathBuf};
@@ -57,7 +57,7 @@ fn named(folder: PathBuf) -> Result<PathBuf, String> {
 fn in_repository() -> Result<PathBuf, String> {
     let crate_folder = env::var_os("CARGO_MANIFEST_DIR").expect("cargo sets CARGO_MANIFEST_DIR");
     let root = Path::new(&crate_folder).join("../..");
-    let folder = root.join("target/staticlib");
+    let folder = root.join("crates/capi/out");
     if folder.join(LIBRARY).is_file() {
         return Ok(folder);
     }
@@ -66,16 +66,16 @@ fn in_repository() -> Result<PathBuf, String> {
     }
     make(&root)?;
     if !folder.join(LIBRARY).is_file() {
-        return Err(format!("`rt staticlib capi` left no {LIBRARY} in {}.", folder.display()));
+        return Err(format!("`rt lib` left no {LIBRARY} in {}.", folder.display()));
     }
     Ok(folder)
 }
 
-/// Runs `rt staticlib capi` in the repository.
+/// Runs `rt lib` in the crate's folder.
 fn make(root: &Path) -> Result<(), String> {
-    let run = Command::new("rt").args(["staticlib", "capi"]).current_dir(root).output();
+    let run = Command::new("rt").arg("lib").current_dir(root.join("crates/capi")).output();
     let run = run.map_err(|error| {
-        let missing = "there is no libcapi.a in the repository's target/staticlib";
+        let missing = "there is no libcapi.a in the repository's crates/capi/out";
         let rt = format!("`rt`, which makes it, could not be run: {error}");
         format!("{missing}, and {rt}. {REMEDY}, or install Rattle's `rt`.")
     })?;
@@ -86,7 +86,7 @@ fn make(root: &Path) -> Result<(), String> {
     let printed = String::from_utf8_lossy(&printed);
     let lines: Vec<&str> = printed.lines().collect();
     let end = lines[lines.len().saturating_sub(SHOWN)..].join("\n");
-    Err(format!("`rt staticlib capi` failed ({}). It printed:\n{end}", run.status))
+    Err(format!("`rt lib` in crates/capi failed ({}). It printed:\n{end}", run.status))
 }
 
 /// Tells cargo to link the library.

@@ -2,7 +2,7 @@
 # Builds bindings/c/example.c as C and, where there is a C++ compiler, as C++, runs it on files and
 # holds what it prints to the texts of document 01's table and to its refusals.
 #
-#   RICESHOAL_LIB_DIR  the folder of libcapi.a (default target/staticlib)
+#   RICESHOAL_LIB_DIR  the folder of libcapi.a (default crates/capi/out)
 #
 # Where there is no C or C++ compiler, it says so in one line; with CI set that is a failure.
 set -eu
@@ -11,7 +11,7 @@ here=$(CDPATH= cd -- "$(dirname -- "$0")" && pwd -P)
 root=$(CDPATH= cd -- "$here/../.." && pwd -P)
 . "$root/tests/common.sh"
 target=$root/target/bindings-c
-library=${RICESHOAL_LIB_DIR:-$root/target/staticlib}/libcapi.a
+library=${RICESHOAL_LIB_DIR:-$root/crates/capi/out}/libcapi.a
 source=$root/bindings/c/example.c
 warnings='-Wall -Wextra -Werror -pedantic'
 runs=0
