@@ -1,5 +1,6 @@
 -- `listing_lines::position_length` meets its contract: the sum of its parts.
 -- Assumes nothing.
+use mathlib.Core.Path.{refl}
 use native.Mathlib.Omega.{arith}
 use Rattle.output.specs.Ascii.{ascii}
 use Rattle.listing_lines.proofs.Lines.{position_parts}
