@@ -1,6 +1,7 @@
 // The dump of an image (document 01, module 6; the Rust's `format_dump`): addresses, digits and
 // characters, line by line. It answers a text and its length, or refusal 1, 2 or 8.
 #![tactic(auto)]
+
 ghost use Rattle.std.specs.Prelude.{◌≡◌, ◌-◌, ◌*◌, ◌≤◌, ◌<◌, length};
 ghost use Rattle.output.specs.Writes.{Writes};
 ghost use Rattle.outcome.specs.Outcome.{Exports};

@@ -1,7 +1,7 @@
 -- `byte_lines::put_list` meets its contract: at each turn k bytes are written.
 -- Assumes nothing.
 use mathlib.Core.Path.{◌≡◌, refl, ap}
-use Prim.Native.Nat.{◌+◌, ◌-◌, ◌≤◌}
+use Prim.Native.Nat.{◌+◌, ◌≤◌}
 use native.Mathlib.Omega.{arith}
 use lib.ListN.{length, length-append}
 use borrow.Author.Rules.{rules}
@@ -51,7 +51,9 @@ put_items-next-requires c =
     let more = c.line_rest-more.result in
     let stands = list_items a.radix a.separator.now a.image.now (line_start a.start) a.bits l.k more (omega (arith, c.line_rest-more.ensures)) in
     let put-byte-in = rw c.byte_of-byte.ensures at c.put_byte_in-next.ensures in
-    let done = writes_then l.invariant.1 (writes_then c.put_between-next.ensures put-byte-in) in record { inside = λ p. (omega (arith, c.line_rest-more.ensures, whole.1, p), omega (arith, c.line_rest-more.ensures, whole.2, p)); room = omega (
+    let done = writes_then l.invariant.1 (writes_then c.put_between-next.ensures put-byte-in) in record {
+      inside = λ p. (omega (arith, c.line_rest-more.ensures, whole.1, p), omega (arith, c.line_rest-more.ensures, whole.2, p));
+      room = omega (
         arith,
         done.next,
         writes_length done,
@@ -60,7 +62,8 @@ put_items-next-requires c =
         length-append (joined (gap a.separator.now (line_start a.start)) (item a.radix a.image.now a.bits) (l.k + 1)) (items_text a.radix a.separator.now a.image.now a.bits (l.k + 1) more),
         list_room (gap a.separator.now (line_start a.start)) (item a.radix a.image.now a.bits) (l.k + 1 + more) (ceil_div a.bits 8) (omega (arith, c.line_rest-more.ensures, whole.0, c.loop-k-test.true)),
         c.requires.2,
-      ) }
+      );
+    }
 
 pub loop-k-smaller : goal.loop-k-smaller
 loop-k-smaller c = omega (arith, c.loop-k-test.true)
