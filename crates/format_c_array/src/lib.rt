@@ -1,6 +1,7 @@
 // The bytes of an image as an array of C (document 01, module 4; the Rust's `format_c_array`). It
 // answers a text and its length, or refusal 1, 2, 4 or 8.
 #![tactic(auto)]
+
 ghost use Rattle.std.specs.Prelude.{◌≡◌, ◌≤◌, ◌<◌, ◌^◌, length};
 ghost use Rattle.bitvec.specs.Size.{ceil_div};
 ghost use Rattle.output.specs.Writes.{Writes};

@@ -1,6 +1,7 @@
 // The image file of Logisim (document 01, module 5; the Rust's `format_logisim`). It answers a text
 // and its length, or refusal 1, 2 or 8.
 #![tactic(auto)]
+
 ghost use Rattle.std.specs.Prelude.{◌≡◌, cond, List, ℕ, ◌+◌, ◌-◌, ◌*◌, ◌/◌, ◌%◌, ◌≤◌, ◌<◌, ◌^◌, eqb, length};
 ghost use Rattle.bitvec.specs.Bits.{byte_at};
 ghost use Rattle.bitvec.specs.Size.{ceil_div};
@@ -335,6 +336,7 @@ fn per_line(width: usize) -> usize
 }
 
 // How many chunks are written by bytes or by lines.
+#[tactic(auto, unfolding(crate::specs::Short::by_bytes, crate::specs::Short::per_line, crate::specs::Short::whole_chunks))]
 fn whole_chunks(bits: usize, width: usize) -> usize
     requires { bits ≤ 16777216 }
     ensures { (result ≡ whole_chunks bits width) × (result * width ≤ bits) }
@@ -349,6 +351,7 @@ fn whole_chunks(bits: usize, width: usize) -> usize
 }
 
 // Stores these chunks. Each width is a number in its call, so that no loop tests it.
+#[tactic(auto, unfolding(crate::specs::Short::by_bytes, crate::specs::Short::per_line, crate::specs::Short::whole_chunks))]
 fn put_whole(out: &mut [u8], at: usize, image: &[u8], bits: usize, width: usize) -> usize
     requires inside { bits ≤ 8 * length image.now }
     requires room { at + length (pieces (chunk_at image.now bits width) (whole_chunks bits width)) ≤ length out.old }

@@ -1,6 +1,7 @@
 // The memory initialization file (document 01, module 5; the Rust's `format_mif`). It answers a text
 // and its length, or refusal 1, 4 or 8.
 #![tactic(auto)]
+
 ghost use Rattle.std.specs.Prelude.{◌≡◌, List, ◌++◌, ℕ, ◌+◌, ◌-◌, ◌*◌, ◌≤◌, ◌<◌, ◌^◌, length, take};
 ghost use Rattle.bitvec.specs.Size.{ceil_div};
 ghost use Rattle.output.specs.Pieces.{pieces};

@@ -1,6 +1,7 @@
 // The list of an image's bytes with a separator (document 01, module 4; the Rust's
 // `format_separator`). It answers a text and its length, or refusal 1, 2 or 8.
 #![tactic(auto)]
+
 ghost use Rattle.std.specs.Prelude.{length};
 ghost use Rattle.outcome.specs.Outcome.{Exports};
 ghost use Rattle.format_separator.specs.Separator.{separator_outcome};

@@ -2,6 +2,7 @@
 // options, the widths of its columns, and its heading. A caller has shown that the options are in
 // their range, and that there is room.
 #![tactic(auto)]
+
 ghost use Rattle.std.specs.Prelude.{◌≡◌, false, ◌+◌, ◌≤◌, max, length};
 ghost use Rattle.output.specs.Writes.{Writes};
 ghost use Rattle.numbers.specs.Digits.{digit_count, padded};

@@ -2,6 +2,7 @@
 // position, the logical address, the contents and the excerpt of one span. A caller has shown that
 // the options are in their range, that the columns are narrow, and that there is room.
 #![tactic(auto)]
+
 ghost use Rattle.std.specs.Prelude.{◌≡◌, false, List, ℕ, ◌+◌, ◌/◌, ◌%◌, ◌≤◌, ◌<◌, ◌^◌, max, length};
 ghost use Rattle.output.specs.Writes.{Writes};
 ghost use Rattle.numbers.specs.declared.Letters.TheVariants.{Lower};

@@ -19,8 +19,7 @@ returns-then-width-eq32 c = (rw c.if-width-eq32.true, omega arith, omega arith)
 
 pub returns-else-width-eq32 : goal.returns-else-width-eq32
 unfolding per_line
-returns-else-width-eq32 c =
-    (
+returns-else-width-eq32 c = (
   simp (ne_eqb _ _ c.if-width-eq8.false, ne_eqb _ _ c.if-width-eq16.false, ne_eqb _ _ c.if-width-eq32.false),
   omega arith,
   omega arith,

@@ -7,7 +7,7 @@ use lib.ListN.{length}
 use borrow.Author.Rules.{rules}
 use Rattle.output.proofs.Pieces.{pieces_none, pieces_next}
 use Rattle.output.proofs.Writes.{writes_nothing, writes_then, writes_length}
-use Rattle.format_logisim.specs.Short.{digit_of, broken_digits}
+use Rattle.format_logisim.specs.Short.{broken_digits}
 use Rattle.format_logisim.proofs.Short.{some_bits, some_chunks}
 use Rattle.format_logisim.proofs.put_broken.Goals as goal
 
@@ -46,14 +46,13 @@ put-next-requires-in-loop-k-2 c =
     (arith, room, c.put-next.ensures.next, writes_length c.put-next.ensures, c.put-next-in-loop-k.ensures.next, writes_length c.put-next-in-loop-k.ensures)
 
 pub loop-k-preserved : goal.loop-k-preserved
-loop-k-preserved c =
-    (
-      search rules,
-      omega (arith, c.loop-k.invariant.1, c.put-next.ensures.next, c.put-next-in-loop-k.ensures.next, c.put-next-in-loop-k-2.ensures.next),
-      rw (pieces_next, ← c.digit_of.ensures)
-          (writes_then c.loop-k.invariant.2 (writes_then c.put-next.ensures (writes_then c.put-next-in-loop-k.ensures c.put-next-in-loop-k-2.ensures))),
-      omega (arith, c.loop-k.invariant.3, writes_length c.put-next.ensures, writes_length c.put-next-in-loop-k.ensures, writes_length c.put-next-in-loop-k-2.ensures),
-    )
+loop-k-preserved c = (
+  search rules,
+  omega (arith, c.loop-k.invariant.1, c.put-next.ensures.next, c.put-next-in-loop-k.ensures.next, c.put-next-in-loop-k-2.ensures.next),
+  rw (pieces_next, ← c.digit_of.ensures)
+      (writes_then c.loop-k.invariant.2 (writes_then c.put-next.ensures (writes_then c.put-next-in-loop-k.ensures c.put-next-in-loop-k-2.ensures))),
+  omega (arith, c.loop-k.invariant.3, writes_length c.put-next.ensures, writes_length c.put-next-in-loop-k.ensures, writes_length c.put-next-in-loop-k-2.ensures),
+)
 
 pub digit_of-requires-2 : goal.digit_of-requires-2
 digit_of-requires-2 c =

@@ -2,7 +2,7 @@
 -- Assumes nothing.
 use mathlib.Core.Path.{◌≡◌, refl, ap}
 use mathlib.Core.List.{List}
-use Prim.Native.Nat.{ℕ, ◌+◌, ◌-◌, ◌*◌, ◌/◌, ◌≤◌}
+use Prim.Native.Nat.{ℕ, ◌+◌, ◌*◌, ◌/◌, ◌≤◌}
 use native.Mathlib.Nat.{zero-mul, mul-le-mul_right}
 use native.Mathlib.Omega.{arith}
 use lib.ListN.{length, length-append}
@@ -36,13 +36,17 @@ put_line-next-requires c =
       c.loop-j.invariant.3,
       c.requires.room,
     ) in
-    let told = c.smaller-size.ensures in record { short = c.requires.short; inside = (
-          c.loop-j.invariant.1 c.loop-j-test.true,
-          omega (arith, told, c.loop-j-test.true),
-          omega (arith, told),
-          omega (arith, told, c.loop-j-test.true, c.requires.inside.0),
-          omega (arith, told, c.loop-j-test.true, c.requires.inside.0, c.requires.inside.1),
-        ); room = omega (arith, room) }
+    let told = c.smaller-size.ensures in record {
+      short = c.requires.short;
+      inside = (
+        c.loop-j.invariant.1 c.loop-j-test.true,
+        omega (arith, told, c.loop-j-test.true),
+        omega (arith, told),
+        omega (arith, told, c.loop-j-test.true, c.requires.inside.0),
+        omega (arith, told, c.loop-j-test.true, c.requires.inside.0, c.requires.inside.1),
+      );
+      room = omega (arith, room);
+    }
 
 pub overflow_add-j : goal.overflow_add-j
 overflow_add-j c = omega (arith, c.smaller-size.ensures, c.loop-j-test.true)

@@ -56,8 +56,12 @@ put_row-next-requires c =
     let others_length : length (others) ≡ (c.args.count - 1) * (8 / c.args.width * 2) = pieces_length _ (8 / c.args.width * 2) (c.args.count - 1) (λ i h. spaced_length _ _ _) in
     let a = c.args in
     let inside = c.requires.inside in
-    let wrote = c.put_broken-next.ensures in record { short = c.requires.short; inside = (omega (arith, inside.1, inside.3), omega (arith, inside.1, inside.4)); room = omega
-            (arith, room, others_length, wrote.next, writes_length wrote, broken_length a.width (8 / a.width) (get_or a.image.now a.j 0)) }
+    let wrote = c.put_broken-next.ensures in record {
+      short = c.requires.short;
+      inside = (omega (arith, inside.1, inside.3), omega (arith, inside.1, inside.4));
+      room = omega
+          (arith, room, others_length, wrote.next, writes_length wrote, broken_length a.width (8 / a.width) (get_or a.image.now a.j 0));
+    }
 
 pub put_every-requires : goal.put_every-requires
 put_every-requires c =

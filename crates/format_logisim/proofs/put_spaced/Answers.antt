@@ -24,7 +24,7 @@ put_word-requires c =
 pub returns-then-width-eq1 : goal.returns-then-width-eq1
 returns-then-width-eq1 c =
     let a = c.args in
-    let small = (c.shared_slice_known-then-width-eq1-1.given a.j).fits in
+    let small = (c.type_inv.image a.j).fits in
     rw (
       c.if-width-eq1.true,
       byte_whole a.image.now a.bits a.j c.requires.inside.0 small,

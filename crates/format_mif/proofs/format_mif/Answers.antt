@@ -61,8 +61,7 @@ write_mif-requires c =
     let counted : (1 ≤ c.parts-count.result) × (c.parts-count.result ≤ 16777216) = let a = c.args in
     let size = size_good a.image.now a.bits (sized) in
     (omega (arith, c.parts-count.ensures, c.if-bits-eq0.false), omega (arith, c.parts-count.ensures)) in
-    let a = c.args in
-    (
+    let a = c.args in (
       omega (arith, counted),
       c.parts-count.ensures,
       c.digit_count-width.ensures,

@@ -21,7 +21,7 @@ unfolding bad_job
 returns-then-n-lt20 c = simp (le-ltb _ _ c.if-n-gt65536.false, lt-ltb _ _ c.if-n-lt20.true)
 
 pub overflow_add-read_word : goal.overflow_add-read_word
-overflow_add-read_word c = record { fits = omega (arith, c.parts-image_bytes.ensures, ceil_most c.read_word.result 8 (omega arith), c.read_word.type-inv, c.read_word-2.type-inv) }
+overflow_add-read_word c = record { fits = omega (arith, c.parts-image_bytes.ensures, ceil_most c.read_word.result 8 (omega arith), c.read_word.type_inv, c.read_word-2.type_inv) }
 
 pub returns-then-n-read_word : goal.returns-then-n-read_word
 unfolding bad_job

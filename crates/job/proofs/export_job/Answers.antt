@@ -50,7 +50,7 @@ export_rows-requires c =
     let good = good_job job c.requires.0 in
     let n = c.read_word-count.result in
     let first = length-take-le n c.rows-offsets.result (omega (arith, few, c.rows-offsets.ensures)) in
-    let second = length-take-le n c.rows-sizes.result (omega (arith, few, c.rows-sizes.ensures)) in record { lent = (first ∙ sym second, good.0); inside = (rw (c.read_word-image.ensures, c.read_word-bits.ensures) good.2, omega (arith, good, first, c.read_word-count.ensures, c.read_word-table.ensures), omega (arith, c.read_word-bits.type-inv)) }
+    let second = length-take-le n c.rows-sizes.result (omega (arith, few, c.rows-sizes.ensures)) in record { lent = (first ∙ sym second, good.0); inside = (rw (c.read_word-image.ensures, c.read_word-bits.ensures) good.2, omega (arith, good, first, c.read_word-count.ensures, c.read_word-table.ensures), omega (arith, c.read_word-bits.type_inv)) }
 
 pub returns : goal.returns
 unfolding image_of job_outcome

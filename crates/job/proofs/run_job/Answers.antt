@@ -9,7 +9,8 @@ use Rattle.job.proofs.run_job.Goals as goal
 
 pub returns-then-bad_job : goal.returns-then-bad_job
 unfolding job_outcome
-returns-then-bad_job c = rw (sym c.bad_job.ensures ∙ c.if-bad_job.true) (c.Put-refused.ensures.0, omega (arith, c.Put-refused.ensures.1))
+returns-then-bad_job c =
+    record { printed = rw (sym c.bad_job.ensures ∙ c.if-bad_job.true) c.put_refused.ensures.printed; room = omega (arith, c.put_refused.ensures.length) }
 
 pub export_job-export-requires : goal.export_job-export-requires
 export_job-export-requires c = (sym c.bad_job.ensures ∙ c.if-bad_job.false, search rules)
@@ -19,10 +20,10 @@ returns-then-number-eq0 c =
     let a = c.args in
     let good = sym c.bad_job.ensures ∙ c.if-bad_job.false in
     let zero = sym c.number-number.ensures ∙ c.if-number-eq0.true in
-    rw c.value.ensures (
-      job_printed a.job.now c.export_job-export.result a.out.now c.export_job-export.new.out good c.export_job-export.ensures zero,
-      job_room a.job.now c.export_job-export.result a.out.now c.export_job-export.new.out good c.export_job-export.ensures zero,
-    )
+    record {
+      printed = rw c.value.ensures (job_printed a.job.now c.export_job-export.result a.out.now c.export_job-export.new.out good c.export_job-export.ensures zero);
+      room = rw c.value.ensures (job_room a.job.now c.export_job-export.result a.out.now c.export_job-export.new.out good c.export_job-export.ensures zero);
+    }
 
 pub put_refused-requires-2 : goal.put_refused-requires-2
 put_refused-requires-2 c = (rw c.number-number.ensures (number_small c.export_job-export.result), search rules)

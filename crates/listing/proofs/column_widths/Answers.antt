@@ -1,7 +1,6 @@
 -- `listing::column_widths` meets its contract: after p turns the widths are those of the first p spans.
 -- Assumes nothing.
 use mathlib.Core.Path.{◌≡◌, refl, sym, ◌∙◌}
-use Prim.Native.Nat.{◌-◌}
 use native.Mathlib.Omega.{arith}
 use lib.ListN.{length}
 use Rattle.listing.specs.Listing.{narrowest, widths_of}
@@ -25,20 +24,20 @@ loop-p-preserved c =
     let l = c.loop-p in
     let a = c.args in
     elim c.if-offsets-p.branch [
-    | then-offsets-p w ↦
-        let e = w.wider-widths.ensures in
-        let more = widths_present a.options a.offsets.now a.sizes.now a.addrs.now l.p w.if-offsets-p.true in
-        rw w.widths-is (
-          omega arith,
-          e.0 ∙ rw l.invariant.1 (sym more),
-          omega (arith, e.1, l.invariant.2),
-          omega (arith, e.2, l.invariant.3),
-          omega (arith, e.3, l.invariant.4),
-          omega (arith, e.4, l.invariant.5),
-        )
-    | else-offsets-p w ↦
-        let same = widths_absent a.options a.offsets.now a.sizes.now a.addrs.now l.p w.if-offsets-p.false in
-        rw w.widths-is (omega arith, l.invariant.1 ∙ sym same, l.invariant.2, l.invariant.3, l.invariant.4, l.invariant.5)
+      | then-offsets-p w ↦
+          let e = w.wider-widths.ensures in
+          let more = widths_present a.options a.offsets.now a.sizes.now a.addrs.now l.p w.if-offsets-p.true in
+          rw w.widths-is (
+            omega arith,
+            e.0 ∙ rw l.invariant.1 (sym more),
+            omega (arith, e.1, l.invariant.2),
+            omega (arith, e.2, l.invariant.3),
+            omega (arith, e.3, l.invariant.4),
+            omega (arith, e.4, l.invariant.5),
+          )
+      | else-offsets-p w ↦
+          let same = widths_absent a.options a.offsets.now a.sizes.now a.addrs.now l.p w.if-offsets-p.false in
+          rw w.widths-is (omega arith, l.invariant.1 ∙ sym same, l.invariant.2, l.invariant.3, l.invariant.4, l.invariant.5)
     ]
 
 pub returns : goal.returns

@@ -1,14 +1,13 @@
 -- `listing::put_title` meets its contract: the fill, and then the title.
 -- Assumes nothing.
 use mathlib.Core.Path.{ap}
-use Prim.Native.Nat.{ℕ, ◌+◌, ◌≤◌}
+use Prim.Native.Nat.{ℕ}
 use native.Mathlib.Omega.{arith}
 use lib.ListN.{length, length-replicate}
 use Rattle.numbers.specs.declared.Letters.TheVariants.{Lower}
 use Rattle.numbers.specs.Digits.{padded}
 use Rattle.numbers.proofs.Digits.{number_length}
 use Rattle.output.proofs.Writes.{writes_then}
-use Rattle.listing.specs.Listing.{addr_title}
 use Rattle.listing.proofs.Columns.{title_16, title_other, title_other_length}
 use Rattle.listing.proofs.put_title.Goals as goal
 
@@ -18,26 +17,18 @@ put_right-requires c = omega (arith, c.requires.1, ap length (title_16 _ c.if-ad
 pub returns-then-addr_base-eq16 : goal.returns-then-addr_base-eq16
 returns-then-addr_base-eq16 c = rw (title_16 _ c.if-addr_base-eq16.true) c.put_right.ensures
 
-pub title_length-requires : goal.title_length-requires
-title_length-requires c = c.requires.0
-
-pub put_fill-next-requires : goal.put_fill-next-requires
-put_fill-next-requires c = omega (arith, c.free-free.ensures, c.title_length.ensures.0, c.requires.1)
-
 pub put_all-next-requires : goal.put_all-next-requires
 put_all-next-requires c =
-    let room : c.put_fill-next.result + length (addr_title c.args.addr_base) ≤ length c.put_fill-next.new.out = omega (arith, c.put_fill-next.ensures.next, c.free-free.ensures, c.title_length.ensures.0, c.requires.1, length-replicate {A = ℕ} c.free-free.result 32) in
-    omega (arith, room, title_other_length c.args.addr_base c.if-addr_base-eq16.false)
+    omega (arith, length-replicate {A = ℕ} c.free-free.result 32, title_other_length c.args.addr_base c.if-addr_base-eq16.false)
 
 pub put_number-next-requires : goal.put_number-next-requires
 put_number-next-requires c =
-    let room : c.put_fill-next.result + length (addr_title c.args.addr_base) ≤ length c.put_fill-next.new.out = omega (arith, c.put_fill-next.ensures.next, c.free-free.ensures, c.title_length.ensures.0, c.requires.1, length-replicate {A = ℕ} c.free-free.result 32) in
-    (omega arith, omega arith, omega (arith, room, c.put_all-next.ensures.next, title_other_length c.args.addr_base c.if-addr_base-eq16.false))
+    (omega arith, omega arith, omega (arith, length-replicate {A = ℕ} c.free-free.result 32, title_other_length c.args.addr_base c.if-addr_base-eq16.false))
 
 pub put_all-requires : goal.put_all-requires
 put_all-requires c =
-    let room : c.put_fill-next.result + length (addr_title c.args.addr_base) ≤ length c.put_fill-next.new.out = omega (arith, c.put_fill-next.ensures.next, c.free-free.ensures, c.title_length.ensures.0, c.requires.1, length-replicate {A = ℕ} c.free-free.result 32) in
-    omega (arith, room, c.put_all-next.ensures.next, c.put_number-next.ensures.next, number_length Lower 10 c.args.addr_base, title_other_length c.args.addr_base c.if-addr_base-eq16.false)
+    let title = title_other_length c.args.addr_base c.if-addr_base-eq16.false in
+    omega (arith, length-replicate {A = ℕ} c.free-free.result 32, number_length Lower 10 c.args.addr_base)
 
 pub returns : goal.returns
 unfolding padded

@@ -1,7 +1,6 @@
 -- `listing_contents::contents_length` meets its contract: that of the digits of the options' base.
 -- Assumes nothing.
 use mathlib.Core.Path.{◌∙◌}
-use Prim.Native.Nat.{◌-◌}
 use native.Mathlib.Omega.{arith}
 use Rattle.bases.proofs.Base.{base_small}
 use Rattle.listing.specs.Listing.{content_digits}

@@ -19,8 +19,7 @@ pub overflow_add-result-2 : goal.overflow_add-result-2
 overflow_add-result-2 c = record { fits = omega (arith, c.place_length-byte.ensures.1, c.place_length-bit.ensures.1) }
 
 pub returns : goal.returns
-returns c =
-    (
+returns c = (
   omega (arith, position_parts c.args.options c.args.widths c.args.offset, c.place_length-byte.ensures.0 (ascii "--") refl, c.place_length-bit.ensures.0 (ascii "-") refl),
   omega (arith, c.place_length-byte.ensures.1, c.place_length-bit.ensures.1),
 )

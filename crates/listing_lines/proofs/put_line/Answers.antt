@@ -1,6 +1,6 @@
 -- `listing_lines::put_line` meets its contract: one writer after another.
 -- Assumes nothing.
-use mathlib.Core.Path.{◌≡◌, ◌∙◌}
+use mathlib.Core.Path.{◌≡◌}
 use mathlib.Core.List.{List}
 use Prim.Native.Nat.{ℕ, ◌+◌, ◌≤◌, max}
 use native.Mathlib.Omega.{arith}
@@ -8,8 +8,7 @@ use lib.ListN.{length}
 use Rattle.numbers.specs.declared.Letters.TheVariants.{Lower}
 use Rattle.numbers.specs.Digits.{digit_count, number_text}
 use Rattle.numbers.proofs.Digits.{number_length, padded_length}
-use Rattle.output.specs.Writes.{Writes}
-use Rattle.output.proofs.Writes.{writes_then, writes_length}
+use Rattle.output.proofs.Writes.{writes_then}
 use Rattle.listing.specs.declared.FormatAnnotatedOptions.{FormatAnnotatedOptions}
 use Rattle.listing.specs.declared.Widths.{Widths}
 use Rattle.listing.specs.Listing.{contents, position, at_right, at_left, line_text}
