@@ -2,6 +2,7 @@
 // address, contents and source excerpt of each span. Spans are lent as six slices of numbers. It
 // answers a text and its length, or refusal 1, 2, 3, 6, 7 or 8.
 #![tactic(auto)]
+
 ghost use Rattle.std.specs.Prelude.{◌≡◌, false, List, ℕ, ◌≤◌, length};
 ghost use Rattle.outcome.specs.Outcome.{in_room, Exports};
 ghost use Rattle.ordering.specs.Order.{in_order};

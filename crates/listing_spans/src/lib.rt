@@ -1,6 +1,7 @@
 // The spans of the annotated listing (document 01, module 9; the Rust's `format_annotated`): the first
 // that cannot be shown, and the lines of those that are shown, in the order of the places lent.
 #![tactic(auto)]
+
 ghost use Rattle.std.specs.Prelude.{◌≡◌, false, ℕ, ◌+◌, ◌≤◌, ◌<◌, ◌^◌, length};
 ghost use mathlib.Core.List.{List, flat_map};
 ghost use Rattle.output.specs.Writes.{Writes};

@@ -4,23 +4,25 @@ use mathlib.Core.Path.{◌≡◌, ap, ◌∙◌}
 use Prim.Native.Nat.{ℕ, ◌*◌}
 use native.Mathlib.Nat.{mul_assoc, one-mul}
 use native.Mathlib.Omega.{arith}
-use Rattle.rows.specs.Rows.{digits_per_byte}
+use Rattle.rows.specs.declared.ByteDigits.{ByteDigits}
+use Rattle.rows.specs.Rows.{digits_per_byte, digit_bits}
 use Rattle.digits.proofs.Run.{bits_few}
 use Rattle.listing_contents.proofs.Groups.{digits_bits, groups_rows, groups_shifted}
 use Rattle.listing_contents.proofs.put_byte_groups.Goals as goal
 
-pub overflow_sub-image : goal.overflow_sub-image
-overflow_sub-image c = omega (arith, c.requires.inside.1)
+-- the bits of all groups are those of their bytes
+group_bits : (kind : ByteDigits) (count group width size : ℕ) → width ≡ digit_bits kind → group ≡ size * digits_per_byte kind
+    → count * (group * width) ≡ count * size * 8
+group_bits kind count group width size e f = rw (e, f, digits_bits kind size, mul_assoc count size 8)
 
 pub put_shifted-requires : goal.put_shifted-requires
 put_shifted-requires c =
-    let bits_of : c.args.count * (c.args.group * c.args.width) ≡ c.args.count * c.args.size * 8 = let a = c.args in
-    rw (c.requires.kind.0, c.requires.kind.1, digits_bits a.kind a.size, mul_assoc a.count a.size 8) in
     let a = c.args in
     let one = c.if-size-eq1.true in
-    let bits : a.count * (a.group * a.width) ≡ a.count * 8 = bits_of ∙ ap (λ (x : ℕ). a.count * x * 8) one ∙ omega arith in
+    let all = group_bits a.kind a.count a.group a.width a.size c.requires.kind.0 c.requires.kind.1 in
+    let bits : a.count * (a.group * a.width) ≡ a.count * 8 = all ∙ ap (λ (x : ℕ). a.count * x * 8) one ∙ omega arith in
     let digits : a.group ≡ digits_per_byte a.kind = c.requires.kind.1 ∙ rw (one, one-mul) in
-    record { inside = (omega arith, omega (arith, bits, c.requires.inside.0), omega (arith, c.requires.inside.1, c.if-count-image.true)); room = rw digits at c.requires.room }
+    record { inside = (omega arith, omega arith, omega arith); room = rw digits at c.requires.room }
 
 pub returns-then-count-image : goal.returns-then-count-image
 returns-then-count-image c =
@@ -30,11 +32,9 @@ returns-then-count-image c =
 
 pub put_rows-requires : goal.put_rows-requires
 put_rows-requires c =
-    let bits_of : c.args.count * (c.args.group * c.args.width) ≡ c.args.count * c.args.size * 8 = let a = c.args in
-    rw (c.requires.kind.0, c.requires.kind.1, digits_bits a.kind a.size, mul_assoc a.count a.size 8) in
-    let bits = bits_of in
-    let whole = c.if-start-eq0.true in
-    record { inside = (omega (arith, bits, c.requires.inside.0), omega (arith, bits, c.requires.inside.1)); room = rw c.requires.kind.1 at c.requires.room }
+    let a = c.args in
+    let bits = group_bits a.kind a.count a.group a.width a.size c.requires.kind.0 c.requires.kind.1 in
+    record { inside = (omega arith, omega arith); room = rw c.requires.kind.1 at c.requires.room }
 
 pub returns-then-start-eq0 : goal.returns-then-start-eq0
 returns-then-start-eq0 c =

@@ -1,15 +1,11 @@
 -- `listing_contents::put_each` meets its contract: after k turns k digits are written.
 -- Assumes nothing.
 use mathlib.Core.Path.{◌≡◌, refl}
-use Prim.Native.Nat.{◌+◌, ◌*◌, ◌≤◌}
 use native.Mathlib.Nat.{zero-mul, suc-mul, add-zero}
 use native.Mathlib.Omega.{arith}
-use lib.ListN.{length}
 use borrow.Author.Rules.{rules}
-use Rattle.output.specs.Pieces.{leading}
 use Rattle.output.proofs.Order.{stride}
 use Rattle.output.proofs.Writes.{writes_nothing, writes_then, writes_length}
-use Rattle.listing_contents.proofs.Contents.{gap}
 use Rattle.listing_contents.proofs.Groups.{spaced_none, spaced_next, spaced_room}
 use Rattle.listing_contents.proofs.put_each.Goals as goal
 
@@ -18,25 +14,18 @@ loop-k-init c = (search rules, rw (zero-mul, add-zero), rw (spaced_none _ _ _ _ 
 
 pub put_between-next-requires : goal.put_between-next-requires
 put_between-next-requires c =
-    let room : c.loop-k.next + (length (leading (gap c.args.group) c.loop-k.k) + 1) ≤ length c.loop-k.out = let l = c.loop-k in
     let a = c.args in
-    omega (arith, l.invariant.2.next, spaced_room a.image.now a.bits a.width a.group a.from.0 l.k a.count c.loop-k-test.true, c.requires.room) in
-    (c.requires.small.1, omega (arith, room))
+    let room = spaced_room a.image.now a.bits a.width a.group a.from.0 c.loop-k.k a.count c.loop-k-test.true in
+    (c.requires.small.1, omega arith)
 
 pub put_content_digit-next-requires : goal.put_content_digit-next-requires
 put_content_digit-next-requires c =
-    let near : (let a = c.args in c.loop-k.offset + a.width ≤ a.from.0 + a.count * a.width) = let a = c.args in
-    omega (arith, c.loop-k.invariant.1, stride c.loop-k.k a.count a.width c.loop-k-test.true) in
-    let room : c.loop-k.next + (length (leading (gap c.args.group) c.loop-k.k) + 1) ≤ length c.loop-k.out = let l = c.loop-k in
     let a = c.args in
-    omega (arith, l.invariant.2.next, spaced_room a.image.now a.bits a.width a.group a.from.0 l.k a.count c.loop-k-test.true, c.requires.room) in
-    (c.requires.small.0, omega (arith, near, c.requires.small.2), omega (arith, room, c.put_between-next.ensures.next, writes_length c.put_between-next.ensures))
+    let room = spaced_room a.image.now a.bits a.width a.group a.from.0 c.loop-k.k a.count c.loop-k-test.true in
+    (c.requires.small.0, omega (arith, stride c.loop-k.k a.count a.width c.loop-k-test.true), omega arith)
 
 pub overflow_add-offset : goal.overflow_add-offset
-overflow_add-offset c =
-    let near : (let a = c.args in c.loop-k.offset + a.width ≤ a.from.0 + a.count * a.width) = let a = c.args in
-    omega (arith, c.loop-k.invariant.1, stride c.loop-k.k a.count a.width c.loop-k-test.true) in
-    omega (arith, near, c.requires.small.2)
+overflow_add-offset c = omega (arith, stride c.loop-k.k c.args.count c.args.width c.loop-k-test.true)
 
 pub loop-k-preserved : goal.loop-k-preserved
 loop-k-preserved c =

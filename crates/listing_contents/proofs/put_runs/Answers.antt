@@ -1,10 +1,9 @@
 -- `listing_contents::put_runs` meets its contract: after k turns k groups are written.
 -- Assumes nothing.
 use mathlib.Core.Path.{◌≡◌, refl}
-use Prim.Native.Nat.{◌+◌, ◌*◌, ◌≤◌}
+use Prim.Native.Nat.{◌+◌, ◌*◌}
 use native.Mathlib.Nat.{add-zero, zero-mul, suc-mul}
 use native.Mathlib.Omega.{arith}
-use lib.ListN.{length}
 use borrow.Author.Rules.{rules}
 use Rattle.output.proofs.Order.{stride}
 use Rattle.output.proofs.Writes.{writes_nothing, writes_then, writes_length}
@@ -17,34 +16,25 @@ loop-k-init c = (search rules, rw (zero-mul, add-zero), rw (groups_none _ _ _ _ 
 
 pub put_run-next-requires : goal.put_run-next-requires
 put_run-next-requires c =
-    let near : (let a = c.args in c.loop-k.offset + a.group * a.width ≤ a.from.0 + a.count * (a.group * a.width)) = let a = c.args in
-    omega (arith, c.loop-k.invariant.1, stride c.loop-k.k a.count (a.group * a.width) c.loop-k-test.true) in
-    let room : c.loop-k.next + (c.args.group + 1) ≤ length c.loop-k.out = let l = c.loop-k in
     let a = c.args in
-    omega
-    (arith, l.invariant.2.next, groups_length a.image.now a.bits a.width a.group a.from.0 l.k, stride l.k a.count (a.group + 1) c.loop-k-test.true, c.requires.room) in
-    (c.requires.small.0, omega (arith, near, c.requires.small.1), omega (arith, room))
+    let l = c.loop-k in
+    let near = stride l.k a.count (a.group * a.width) c.loop-k-test.true in
+    let room = stride l.k a.count (a.group + 1) c.loop-k-test.true in
+    (c.requires.small.0, omega arith, omega (arith, groups_length a.image.now a.bits a.width a.group a.from.0 l.k))
 
 pub put-next-requires : goal.put-next-requires
 put-next-requires c =
-    let room : c.loop-k.next + (c.args.group + 1) ≤ length c.loop-k.out = let l = c.loop-k in
     let a = c.args in
-    omega
-    (arith, l.invariant.2.next, groups_length a.image.now a.bits a.width a.group a.from.0 l.k, stride l.k a.count (a.group + 1) c.loop-k-test.true, c.requires.room) in
-    let a = c.args in
-    omega (arith, room, c.put_run-next.ensures.next, writes_length c.put_run-next.ensures, run_length a.image.now a.bits a.width c.loop-k.offset a.group)
+    let l = c.loop-k in
+    let room = stride l.k a.count (a.group + 1) c.loop-k-test.true in
+    let run = run_length a.image.now a.bits a.width l.offset a.group in
+    omega (arith, groups_length a.image.now a.bits a.width a.group a.from.0 l.k)
 
 pub overflow_mul-offset : goal.overflow_mul-offset
-overflow_mul-offset c =
-    let near : (let a = c.args in c.loop-k.offset + a.group * a.width ≤ a.from.0 + a.count * (a.group * a.width)) = let a = c.args in
-    omega (arith, c.loop-k.invariant.1, stride c.loop-k.k a.count (a.group * a.width) c.loop-k-test.true) in
-    omega (arith, near, c.requires.small.1)
+overflow_mul-offset c = omega (arith, stride c.loop-k.k c.args.count (c.args.group * c.args.width) c.loop-k-test.true)
 
 pub overflow_add-offset : goal.overflow_add-offset
-overflow_add-offset c =
-    let near : (let a = c.args in c.loop-k.offset + a.group * a.width ≤ a.from.0 + a.count * (a.group * a.width)) = let a = c.args in
-    omega (arith, c.loop-k.invariant.1, stride c.loop-k.k a.count (a.group * a.width) c.loop-k-test.true) in
-    omega (arith, near, c.requires.small.1)
+overflow_add-offset c = omega (arith, stride c.loop-k.k c.args.count (c.args.group * c.args.width) c.loop-k-test.true)
 
 pub loop-k-preserved : goal.loop-k-preserved
 loop-k-preserved c =

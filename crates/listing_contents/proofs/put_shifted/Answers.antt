@@ -1,9 +1,8 @@
 -- `listing_contents::put_shifted` meets its contract: after k turns k groups are written.
 -- Assumes nothing.
 use mathlib.Core.Path.{◌≡◌, refl}
-use Prim.Native.Nat.{◌+◌, ◌*◌, ◌≤◌}
+use Prim.Native.Nat.{◌+◌, ◌*◌}
 use native.Mathlib.Omega.{arith}
-use lib.ListN.{length}
 use borrow.Author.Rules.{rules}
 use Rattle.output.proofs.Writes.{writes_nothing, writes_then, writes_length}
 use Rattle.rows.specs.Rows.{digits_per_byte, digit_bits}
@@ -15,25 +14,18 @@ use Rattle.listing_contents.proofs.put_shifted.Goals as goal
 pub loop-k-init : goal.loop-k-init
 loop-k-init c = (search rules, rw (groups_none _ _ _ _ _) (writes_nothing _ _), refl)
 
-pub overflow_add-first : goal.overflow_add-first
-overflow_add-first c = omega (arith, c.requires.inside)
-
 pub put_digits-next-requires : goal.put_digits-next-requires
 put_digits-next-requires c =
-    let room : c.loop-k.next + (digits_per_byte c.args.kind + 1) ≤ length c.loop-k.out = let l = c.loop-k in
     let a = c.args in
-    omega
-    (arith, l.invariant.1.next, groups_length a.image.now a.bits (digit_bits a.kind) (digits_per_byte a.kind) (a.first * 8 + a.shift) l.k, stride l.k a.count (digits_per_byte a.kind + 1) c.loop-k-test.true, c.requires.room) in
-    omega (arith, room)
+    let room = stride c.loop-k.k a.count (digits_per_byte a.kind + 1) c.loop-k-test.true in
+    omega (arith, groups_length a.image.now a.bits (digit_bits a.kind) (digits_per_byte a.kind) (a.first * 8 + a.shift) c.loop-k.k)
 
 pub put-next-requires : goal.put-next-requires
 put-next-requires c =
-    let room : c.loop-k.next + (digits_per_byte c.args.kind + 1) ≤ length c.loop-k.out = let l = c.loop-k in
     let a = c.args in
-    omega
-    (arith, l.invariant.1.next, groups_length a.image.now a.bits (digit_bits a.kind) (digits_per_byte a.kind) (a.first * 8 + a.shift) l.k, stride l.k a.count (digits_per_byte a.kind + 1) c.loop-k-test.true, c.requires.room) in
-    let a = c.args in
-    omega (arith, room, c.put_digits-next.ensures.next, writes_length c.put_digits-next.ensures, byte_length a.kind c.read_across-byte.result)
+    let room = stride c.loop-k.k a.count (digits_per_byte a.kind + 1) c.loop-k-test.true in
+    let byte = byte_length a.kind c.read_across-byte.result in
+    omega (arith, groups_length a.image.now a.bits (digit_bits a.kind) (digits_per_byte a.kind) (a.first * 8 + a.shift) c.loop-k.k)
 
 pub loop-k-preserved : goal.loop-k-preserved
 loop-k-preserved c =

@@ -1,13 +1,11 @@
 -- `listing_spans::span_fault` meets its contract: no span before place p has a fault.
 -- Assumes nothing.
 use mathlib.Core.Path.{◌≡◌, sym, ◌∙◌}
-use mathlib.Core.Bool.{false}
-use Prim.Native.Nat.{◌-◌}
 use native.Mathlib.Omega.{arith}
 use lib.ListN.{length}
 use borrow.Author.Count.{below_none, below_more}
 use Rattle.ordering.proofs.Lists.{first_at, first_all}
-use Rattle.listing_spans.specs.Faults.{faulty, span_fault}
+use Rattle.listing_spans.specs.Faults.{span_fault}
 use borrow.Author.Rules.{rules}
 use Rattle.listing_spans.proofs.span_fault.Goals as goal
 
