@@ -1,6 +1,7 @@
 // The bench program (document 01): one job from standard input, its Intel HEX text to standard
 // output, or `refused N` and a newline.
 #![tactic(auto)]
+
 ghost use Rattle.std.specs.Prelude.{◌≡◌, length};
 
 use job::run_job;

@@ -2,6 +2,7 @@
 // pointer and a length. A function returns the number of the refusal, 0 for a text, and stores the
 // length of the text or the value that comes with the refusal.
 #![tactic(auto)]
+
 ghost use Rattle.std.specs.Prelude.{◌≡◌, length};
 ghost use Rattle.outcome.specs.Outcome.{answer_of};
 ghost use Rattle.intelhex.specs.Hex.{hex_outcome};
