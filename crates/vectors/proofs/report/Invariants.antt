@@ -5,7 +5,7 @@ use lib.ListN.{length}
 use Rattle.vectors.proofs.report.Given as goal
 
 abbrev pub invariant-loop-at : goal.invariant-loop-at
-invariant-loop-at l = (l.lines ≤ l.at) × (l.equal ≤ l.at) × (l.at ≤ length l.s)
+invariant-loop-at g l = (l.lines ≤ l.at) × (l.equal ≤ l.at) × (l.at ≤ length l.s)
 
 abbrev pub decreases-loop-at : goal.decreases-loop-at
-decreases-loop-at l = length l.s - l.at
+decreases-loop-at g l = length l.s - l.at
