@@ -45,9 +45,6 @@ chunks_length-needed-requires c =
     let f = fits in
     (f.0, f.1, f.2, c.parts-chunks.ensures)
 
-pub overflow_add-needed : goal.overflow_add-needed
-overflow_add-needed c = omega (arith, c.chunks_length-needed.ensures.1)
-
 pub returns-then-out-needed : goal.returns-then-out-needed
 unfolding logisim_outcome logisim_text
 returns-then-out-needed c =
