@@ -20,6 +20,7 @@ fn c_array_length(image: &[u8], bits: usize, radix: usize, count: usize, width: 
 }
 
 // Stores the array of `count` bytes.
+#[tactic(auto, using(crate::proofs::Lengths::c_array_parts))]
 fn write_c_array(
     image: &[u8],
     bits: usize,
@@ -47,6 +48,7 @@ fn write_c_array(
 }
 
 // The bytes in radix 10 or 16 of an image that is not empty, sixteen a line behind their address.
+#[tactic(auto, using(bitvec::proofs::Size::size_good, outcome::proofs::Outcome::exports_text, outcome::proofs::Outcome::exports_no_room), unfolding(bitvec::specs::Size::ceil_div, crate::specs::CArray::c_array_outcome))]
 pub fn format_c_array(image: &[u8], bits: usize, radix: usize, out: &mut [u8]) -> Export
     ensures { Exports (c_array_outcome image.now bits radix (length out.old)) result out.old out.new }
 {

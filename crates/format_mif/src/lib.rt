@@ -101,6 +101,7 @@ fn put_mif_lines(
 }
 
 // Stores the file, of `count` bytes.
+#[tactic(auto, using(crate::proofs::Lengths::mif_parts, numbers::proofs::Digits::number_length))]
 fn write_mif(image: &[u8], bits: usize, count: usize, width: usize, out: &mut [u8]) -> usize
     requires { (count ≤ 2 ^ 24) × (count ≡ ceil_div bits 8) × (width ≡ digit_count 16 (count - 1)) × (length (mif_text image.now bits) ≤ length out.old) }
     ensures { Writes (mif_text image.now bits) out.old 0 out.new result }
@@ -117,6 +118,7 @@ fn write_mif(image: &[u8], bits: usize, count: usize, width: usize, out: &mut [u
 }
 
 // A line for each byte of an image that is not empty.
+#[tactic(auto, using(bitvec::proofs::Size::size_good, outcome::proofs::Outcome::exports_text, outcome::proofs::Outcome::exports_no_room), unfolding(bitvec::specs::Size::ceil_div, crate::specs::Mif::mif_outcome))]
 pub fn format_mif(image: &[u8], bits: usize, out: &mut [u8]) -> Export
     ensures { Exports (mif_outcome image.now bits (length out.old)) result out.old out.new }
 {
