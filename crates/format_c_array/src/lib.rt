@@ -12,6 +12,7 @@ use byte_lines::LineStart;
 use outcome::Export;
 
 // The length of the array of `count` bytes whose addresses have `width` digits.
+#[tactic(auto, using(crate::proofs::Lengths::width_few))]
 fn c_array_length(image: &[u8], bits: usize, radix: usize, count: usize, width: usize) -> usize
     requires { (count < 2 ^ 32) × (count ≡ ceil_div bits 8) × (width ≡ address_width bits) }
     ensures { result ≡ length (c_array_text radix image.now bits) }

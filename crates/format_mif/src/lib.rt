@@ -15,6 +15,7 @@ use numbers::Letters;
 use outcome::Export;
 
 // The length of the file of `count` bytes whose addresses have `width` digits.
+#[tactic(auto, using(crate::proofs::Lengths::counts_few))]
 fn mif_length(count: usize, width: usize) -> usize
     requires { (count ≤ 2 ^ 24) × (width ≡ digit_count 16 (count - 1)) }
     ensures { (bytes : List ℕ) (len : ℕ) → count ≡ ceil_div len 8 → length (mif_text bytes len) ≡ result }
