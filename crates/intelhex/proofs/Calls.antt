@@ -7,12 +7,12 @@ use Prim.Native.Nat.{ℕ}
 use lib.ListN.{length}
 use Rattle.bitvec.specs.Size.{bad_size}
 use Rattle.outcome.specs.declared.Export.{Export}
-use Rattle.outcome.specs.Outcome.{Answer, answer, answer_of, left, Exports}
+use Rattle.outcome.specs.Outcome.{Answer, answer, left, Exports}
 use Rattle.blocks.specs.Blocks.{blocks_of}
 use Rattle.intelhex.specs.Hex.{hex_outcome}
-use Rattle.intelhex.specs.TwoImages.{Agree, SameAnswered, SameAnswers, refused_both, texts_both, both_refused, both_texts}
+use Rattle.intelhex.specs.TwoImages.{Agree, SameAnswered, SameAnswers}
 use Rattle.intelhex.proofs.Conforms.{exported}
-use Rattle.intelhex.proofs.Rule.{two_images, same_answers}
+use Rattle.intelhex.proofs.Rule.{two_images, same_answered, same_answers}
 
 -- Whatever form the answers have: their numbers and values.
 pub answers_rule : (b₁ : List ℕ) (n₁ : ℕ) (b₂ : List ℕ) (n₂ : ℕ) (offsets sizes : List ℕ) (unit : ℕ) (a₁ a₂ : Answer) (out₁ after₁ out₂ after₂ : List ℕ)
@@ -21,7 +21,7 @@ pub answers_rule : (b₁ : List ℕ) (n₁ : ℕ) (b₂ : List ℕ) (n₂ : ℕ)
     → bad_size b₁ n₁ ≡ false → bad_size b₂ n₂ ≡ false → length out₁ ≡ length out₂
     → SameAnswered a₁ a₂ after₁ after₂ (Agree (blocks_of offsets sizes) b₁ n₁ b₂ n₂)
 answers_rule b₁ n₁ b₂ n₂ offsets sizes unit a₁ a₂ out₁ after₁ out₂ after₂ x₁ y₁ x₂ y₂ e₁ e₂ l =
-    same_answers (hex_outcome b₁ n₁ offsets sizes unit (length out₁)) (hex_outcome b₂ n₂ offsets sizes unit (length out₂)) a₁ a₂ out₁ after₁ out₂ after₂
+    same_answered (hex_outcome b₁ n₁ offsets sizes unit (length out₁)) (hex_outcome b₂ n₂ offsets sizes unit (length out₂)) a₁ a₂ out₁ after₁ out₂ after₂
     (Agree (blocks_of offsets sizes) b₁ n₁ b₂ n₂)
     (λ t e. (exported b₁ n₁ offsets sizes unit (length out₁) t e).2)
     (λ t e. (exported b₂ n₂ offsets sizes unit (length out₂) t e).2)
@@ -31,15 +31,15 @@ answers_rule b₁ n₁ b₂ n₂ offsets sizes unit a₁ a₂ out₁ after₁ ou
     y₂
     (rw (← l) (two_images b₁ n₁ b₂ n₂ offsets sizes unit (length out₁) e₁ e₂))
 
--- Answers that are cases of the enum.
-of_cases : (r₁ r₂ : Export) (out₁ out₂ : List ℕ) (A : Type 0) → SameAnswered (answer_of r₁) (answer_of r₂) out₁ out₂ A → SameAnswers r₁ r₂ out₁ out₂ A
-of_cases r₁ r₂ out₁ out₂ A (refused_both n v z e₁ e₂) = both_refused n v z e₁ e₂
-of_cases r₁ r₂ out₁ out₂ A (texts_both n e₁ e₂ s) = both_texts n e₁ e₂ s
-
 pub calls_rule : (b₁ : List ℕ) (n₁ : ℕ) (b₂ : List ℕ) (n₂ : ℕ) (offsets sizes : List ℕ) (unit : ℕ) (r₁ r₂ : Export) (out₁ after₁ out₂ after₂ : List ℕ)
     → Exports (hex_outcome b₁ n₁ offsets sizes unit (length out₁)) r₁ out₁ after₁ → Exports (hex_outcome b₂ n₂ offsets sizes unit (length out₂)) r₂ out₂ after₂
     → bad_size b₁ n₁ ≡ false → bad_size b₂ n₂ ≡ false → length out₁ ≡ length out₂
     → SameAnswers r₁ r₂ after₁ after₂ (Agree (blocks_of offsets sizes) b₁ n₁ b₂ n₂)
-calls_rule b₁ n₁ b₂ n₂ offsets sizes unit r₁ r₂ out₁ after₁ out₂ after₂ x₁ x₂ =
-    λ e₁ e₂ l. of_cases r₁ r₂ after₁ after₂ (Agree (blocks_of offsets sizes) b₁ n₁ b₂ n₂)
-    (answers_rule b₁ n₁ b₂ n₂ offsets sizes unit (answer_of r₁) (answer_of r₂) out₁ after₁ out₂ after₂ x₁.answered x₁.buffer x₂.answered x₂.buffer e₁ e₂ l)
+calls_rule b₁ n₁ b₂ n₂ offsets sizes unit r₁ r₂ out₁ after₁ out₂ after₂ x₁ x₂ e₁ e₂ l =
+    same_answers (hex_outcome b₁ n₁ offsets sizes unit (length out₁)) (hex_outcome b₂ n₂ offsets sizes unit (length out₂)) r₁ r₂ out₁ after₁ out₂ after₂
+    (Agree (blocks_of offsets sizes) b₁ n₁ b₂ n₂)
+    (λ t e. (exported b₁ n₁ offsets sizes unit (length out₁) t e).2)
+    (λ t e. (exported b₂ n₂ offsets sizes unit (length out₂) t e).2)
+    x₁
+    x₂
+    (rw (← l) (two_images b₁ n₁ b₂ n₂ offsets sizes unit (length out₁) e₁ e₂))

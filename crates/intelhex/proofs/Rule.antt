@@ -10,7 +10,8 @@ use lib.Dec.{ltb}
 use lib.ListN.{length, take}
 use Rattle.bitvec.specs.Size.{bad_size}
 use Rattle.output.proofs.Order.{by_order}
-use Rattle.outcome.specs.Outcome.{Outcome, Answer, text, refused, answer, left, outside, in_room}
+use Rattle.outcome.specs.declared.Export.{Export}
+use Rattle.outcome.specs.Outcome.{Outcome, Answer, text, refused, answer, answer_of, left, outside, in_room, Exports}
 use Rattle.outcome.proofs.Outcome.{room_enough, room_short}
 use Rattle.ordering.specs.Lists.{Each}
 use Rattle.ordering.proofs.Lists.{each_both, each_map, sets_front}
@@ -22,7 +23,7 @@ use Rattle.hex_records.proofs.Decoded.{Same as SameBytes, same_data, equal_text,
 use Rattle.hex_records.proofs.Plan.{plan_counts}
 use Rattle.hex_length.proofs.High.{Low, low_each}
 use Rattle.intelhex.specs.Hex.{plan_outcome, hex_outcome}
-use Rattle.intelhex.specs.TwoImages.{Agree, Same, SameAnswered, refused_alike, texts, refused_both, texts_both}
+use Rattle.intelhex.specs.TwoImages.{Agree, Same, SameAnswered, SameAnswers, refused_alike, texts, refused_both, texts_both, both_refused, both_texts}
 use Rattle.intelhex.proofs.Cover.{plan_covers}
 
 -- The rule over a plan, of records of at most 255 bytes as Intel allows: whatever A says in terms of the plan's bytes, the texts say.
@@ -82,14 +83,27 @@ front_text o t before after a e h x y =
     (x ∙ ap answer e, ap (take (length t)) (y ∙ ap (λ (p : Outcome). left p before) e) ∙ sets_front before t (length t) h refl)
 
 -- Two calls whose outcomes are the same so far answer so.
-pub same_answers : (o₁ o₂ : Outcome) (a₁ a₂ : Answer) (before₁ after₁ before₂ after₂ : List ℕ) (A : Type 0)
+pub same_answered : (o₁ o₂ : Outcome) (a₁ a₂ : Answer) (before₁ after₁ before₂ after₂ : List ℕ) (A : Type 0)
     → ((t : List ℕ) → o₁ ≡ text t → length t ≤ length before₁) → ((t : List ℕ) → o₂ ≡ text t → length t ≤ length before₂)
     → a₁ ≡ answer o₁ → after₁ ≡ left o₁ before₁ → a₂ ≡ answer o₂ → after₂ ≡ left o₂ before₂ → Same o₁ o₂ A → SameAnswered a₁ a₂ after₁ after₂ A
-same_answers o₁ o₂ a₁ a₂ before₁ after₁ before₂ after₂ A f₁ f₂ x₁ y₁ x₂ y₂ (refused_alike n v z e₁ e₂) =
+same_answered o₁ o₂ a₁ a₂ before₁ after₁ before₂ after₂ A f₁ f₂ x₁ y₁ x₂ y₂ (refused_alike n v z e₁ e₂) =
     refused_both n v z (x₁ ∙ ap answer e₁) (x₂ ∙ ap answer e₂)
-same_answers o₁ o₂ a₁ a₂ before₁ after₁ before₂ after₂ A f₁ f₂ x₁ y₁ x₂ y₂ (texts t₁ t₂ e₁ e₂ l s) =
+same_answered o₁ o₂ a₁ a₂ before₁ after₁ before₂ after₂ A f₁ f₂ x₁ y₁ x₂ y₂ (texts t₁ t₂ e₁ e₂ l s) =
     let p = front_text o₁ t₁ before₁ after₁ a₁ e₁ (f₁ t₁ e₁) x₁ y₁ in
     let q = front_text o₂ t₂ before₂ after₂ a₂ e₂ (f₂ t₂ e₂) x₂ y₂ in
     let q₂ : take (length t₁) after₂ ≡ t₂ = rw l q.1 in
     texts_both (length t₁) p.0 (q.0 ∙ ap (λ (n : ℕ). record { number = 0; value = n }) (sym l))
     (λ e. s.0 (sym p.1 ∙ e ∙ q₂), λ a. p.1 ∙ s.1 a ∙ sym q₂)
+
+-- Answers that are cases of the enum.
+of_cases : (r₁ r₂ : Export) (out₁ out₂ : List ℕ) (A : Type 0) → SameAnswered (answer_of r₁) (answer_of r₂) out₁ out₂ A → SameAnswers r₁ r₂ out₁ out₂ A
+of_cases r₁ r₂ out₁ out₂ A (refused_both n v z e₁ e₂) = both_refused n v z e₁ e₂
+of_cases r₁ r₂ out₁ out₂ A (texts_both n e₁ e₂ s) = both_texts n e₁ e₂ s
+
+-- The same of two exports.
+pub same_answers : (o₁ o₂ : Outcome) (r₁ r₂ : Export) (before₁ after₁ before₂ after₂ : List ℕ) (A : Type 0)
+    → ((t : List ℕ) → o₁ ≡ text t → length t ≤ length before₁) → ((t : List ℕ) → o₂ ≡ text t → length t ≤ length before₂)
+    → Exports o₁ r₁ before₁ after₁ → Exports o₂ r₂ before₂ after₂ → Same o₁ o₂ A → SameAnswers r₁ r₂ after₁ after₂ A
+same_answers o₁ o₂ r₁ r₂ before₁ after₁ before₂ after₂ A f₁ f₂ x₁ x₂ s =
+    of_cases r₁ r₂ after₁ after₂ A
+    (same_answered o₁ o₂ (answer_of r₁) (answer_of r₂) before₁ after₁ before₂ after₂ A f₁ f₂ x₁.answered x₁.buffer x₂.answered x₂.buffer s)
