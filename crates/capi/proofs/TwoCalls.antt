@@ -6,7 +6,7 @@ use mathlib.Core.List.{List}
 use Prim.Native.Nat.{ℕ}
 use lib.ListN.{length}
 use Rattle.bitvec.specs.Size.{bad_size}
-use Rattle.outcome.specs.Outcome.{Outcome, Answer, answer}
+use Rattle.outcome.specs.Outcome.{Outcome, answer}
 use Rattle.blocks.specs.Blocks.{blocks_of}
 use Rattle.intelhex.specs.Hex.{hex_outcome}
 use Rattle.intelhex.specs.TwoImages.{Agree, SameAnswered}
