@@ -1,6 +1,7 @@
 // Spans that adjoin, as those of an assembler mostly do: each starts where the one before it ends. They
 // are in order and make one block, so that no order need be found.
 #![tactic(auto)]
+
 ghost use Rattle.std.specs.Prelude.{◌≡◌, ◌≤◌, true, length};
 ghost use Rattle.adjoining.specs.Adjoin.{Adjoin};
 

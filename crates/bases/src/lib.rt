@@ -1,5 +1,6 @@
 // The bases that an image's digits can have.
 #![tactic(auto)]
+
 ghost use Rattle.std.specs.Prelude.{◌≡◌};
 ghost use Rattle.bases.specs.Base.{base_bits};
 

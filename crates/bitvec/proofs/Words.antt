@@ -5,7 +5,7 @@ use mathlib.Core.Path.{◌≡◌, refl, ap, sym, ◌∙◌}
 use mathlib.Core.List.{List}
 use Prim.Native.Nat.{ℕ, zero, suc, ◌+◌, ◌-◌, ◌*◌, ◌/◌, ◌%◌, ◌^◌, ◌<◌, ◌≤◌}
 use native.Mathlib.Omega.{arith}
-use native.Mathlib.Nat.{pow-suc, pow-zero, mul-one, add-zero, add-suc, add_assoc, add-mul, mul_assoc, div-one}
+use native.Mathlib.Nat.{pow-suc, pow-zero, mul-one, add-zero, add-suc, add_assoc, mul_assoc, div-one}
 use lib.ListN.{get_or}
 use lib.Pow.{high, low, shr-shr}
 use borrow.Author.Tests.{lt-ltb}

@@ -2,6 +2,7 @@
 // every bit at or past the bit length reads as zero, also in a half-used last byte and past the
 // bytes. The Rust's BitVec holds its length; here it is lent beside the bytes as `len`.
 #![tactic(auto)]
+
 ghost use Rattle.std.specs.Prelude.{◌≡◌, ◌+◌, ◌*◌, ◌/◌, ◌≤◌, ◌<◌, ◌^◌, length};
 ghost use Rattle.bitvec.specs.Bits.{bit_at, bits_at};
 ghost use Rattle.bitvec.specs.Size.{bad_size, ceil_div};

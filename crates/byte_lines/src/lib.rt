@@ -33,6 +33,7 @@ fn put_byte_in(out: &mut [u8], at: usize, radix: usize, byte: u8) -> usize
 }
 
 // Stores the comment with the address `k`.
+#[tactic(auto, using(crate::proofs::Lengths::comment_length, numbers::proofs::Digits::number_length, numbers::proofs::Digits::padded_length))]
 pub fn put_comment(out: &mut [u8], at: usize, width: usize, k: usize) -> usize
     requires { at + length (address_comment width k) ≤ length out.old }
     ensures { Writes (address_comment width k) out.old at out.new result }

@@ -1,6 +1,7 @@
 // A list of an image's bytes (document 01, module 4), which the separator list and the array of C are:
 // its length. The memory initialization file reads its bytes here too.
 #![tactic(auto)]
+
 ghost use Rattle.std.specs.Prelude.{◌≡◌, List, ℕ, ◌+◌, ◌*◌, ◌/◌, ◌≤◌, ◌<◌, ◌^◌, min, length};
 ghost use Rattle.bitvec.specs.Bits.{byte_at};
 ghost use Rattle.bitvec.specs.Size.{ceil_div};

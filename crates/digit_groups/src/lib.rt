@@ -1,6 +1,7 @@
 // Groups of digits with strings between them: the digits of many groups are made at once, and cut into
 // groups.
 #![tactic(auto)]
+
 ghost use Rattle.std.specs.Prelude.{◌≡◌, ◌+◌, ◌-◌, ◌*◌, ◌%◌, ◌≤◌, ◌<◌, ◌^◌, length};
 ghost use Rattle.output.specs.Pieces.{joined, leading};
 ghost use Rattle.output.specs.Writes.{Writes};

@@ -1,5 +1,6 @@
 // Lines of digits: the digits of many lines are made at once, and cut into lines.
 #![tactic(auto)]
+
 ghost use Rattle.std.specs.Prelude.{◌≡◌, ◌+◌, ◌*◌, ◌≤◌, ◌<◌, ◌^◌, length};
 ghost use Rattle.output.specs.Writes.{Writes};
 ghost use Rattle.digit_lines.specs.Lines.{lines_text, block_lines};

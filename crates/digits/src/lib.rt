@@ -1,5 +1,6 @@
 // The digits of an image, written as text: runs of digits of one width.
 #![tactic(auto)]
+
 ghost use Rattle.std.specs.Prelude.{◌≡◌, true, [], ◌∷◌, ◌+◌, ◌*◌, ◌/◌, ◌≤◌, ◌<◌, ◌^◌, length};
 ghost use Rattle.output.specs.Writes.{Writes};
 ghost use Rattle.rows.specs.Rows.{digits_per_byte, digit_bits};

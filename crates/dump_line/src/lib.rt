@@ -314,6 +314,7 @@ pub fn line_length(width: usize, count: usize, address: usize) -> usize
 }
 
 // Stores the line of `count` bytes from byte `first` on, the address filled to `address` digits.
+#[tactic(auto, using(crate::proofs::Lengths::line_written))]
 pub fn put_line(
     out: &mut [u8],
     at: usize,

@@ -1,6 +1,7 @@
 // Eight characters stored at once: the compiler joins the eight stores wherever they stand, if all
 // characters are known before the first is stored and a word has the first one in its lowest byte.
 #![tactic(auto)]
+
 ghost use Rattle.std.specs.Prelude.{◌≡◌, [], ◌∷◌, ◌+◌, ◌≤◌, length};
 ghost use Rattle.output.specs.Writes.{Writes};
 ghost use Rattle.numbers.specs.Digits.{digits_of};

@@ -2,12 +2,12 @@
 -- Assumes nothing.
 use mathlib.Core.Path.{◌≡◌, ◌∙◌}
 use mathlib.Core.List.{List}
-use Prim.Native.Nat.{ℕ, ◌+◌, ◌-◌, ◌≤◌}
+use Prim.Native.Nat.{ℕ, ◌+◌, ◌-◌, ◌^◌, ◌≤◌, ◌<◌}
 use native.Mathlib.Omega.{arith}
 use lib.ListN.{length, length-append}
 use Rattle.bitvec.specs.Size.{ceil_div}
 use Rattle.output.specs.Ascii.{ascii}
-use Rattle.numbers.proofs.Digits.{count_rises}
+use Rattle.numbers.proofs.Digits.{count_rises, count_small}
 use Rattle.byte_lines.specs.declared.LineStart.TheVariants.{Comment}
 use Rattle.byte_list.specs.Bytes.{byte_list}
 use Rattle.byte_lines.specs.Start.{address_comment, line_start}
@@ -25,3 +25,7 @@ c_array_parts radix bytes len = simp length-append (omega arith)
 pub address_length : (len k : ℕ) → k ≤ ceil_div len 8 - 1 → length (address_comment (address_width len) k) ≡ address_width len + 10
 address_length len k h =
     comment_length (address_width len) k ∙ omega (arith, count_rises 16 (omega arith) k (ceil_div len 8 - 1) h)
+
+-- It has few digits.
+pub width_few : (len : ℕ) → ceil_div len 8 < 2 ^ 32 → address_width len ≤ 32
+width_few len h = count_small 16 (omega arith) 31 (ceil_div len 8 - 1) (omega arith)

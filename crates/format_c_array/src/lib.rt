@@ -12,6 +12,7 @@ use byte_lines::LineStart;
 use outcome::Export;
 
 // The length of the array of `count` bytes whose addresses have `width` digits.
+#[tactic(auto, using(crate::proofs::Lengths::width_few))]
 fn c_array_length(image: &[u8], bits: usize, radix: usize, count: usize, width: usize) -> usize
     requires { (count < 2 ^ 32) × (count ≡ ceil_div bits 8) × (width ≡ address_width bits) }
     ensures { result ≡ length (c_array_text radix image.now bits) }
@@ -20,6 +21,7 @@ fn c_array_length(image: &[u8], bits: usize, radix: usize, count: usize, width: 
 }
 
 // Stores the array of `count` bytes.
+#[tactic(auto, using(crate::proofs::Lengths::c_array_parts))]
 fn write_c_array(
     image: &[u8],
     bits: usize,
@@ -47,6 +49,7 @@ fn write_c_array(
 }
 
 // The bytes in radix 10 or 16 of an image that is not empty, sixteen a line behind their address.
+#[tactic(auto, using(bitvec::proofs::Size::size_good, outcome::proofs::Outcome::exports_text, outcome::proofs::Outcome::exports_no_room), unfolding(bitvec::specs::Size::ceil_div, crate::specs::CArray::c_array_outcome))]
 pub fn format_c_array(image: &[u8], bits: usize, radix: usize, out: &mut [u8]) -> Export
     ensures { Exports (c_array_outcome image.now bits radix (length out.old)) result out.old out.new }
 {

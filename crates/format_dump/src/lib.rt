@@ -88,6 +88,7 @@ fn write_dump(
 }
 
 // The dump with any options.
+#[tactic(auto, using(bitvec::proofs::Size::size_good, crate::proofs::Range::in_range_lem, crate::proofs::Lengths::lines_few), unfolding(crate::specs::Dump::dump_outcome))]
 pub fn format_dump(image: &[u8], bits: usize, options: DumpOptions, out: &mut [u8]) -> Export
     ensures { Exports (dump_outcome image.now bits options (length out.old)) result out.old out.new }
 {

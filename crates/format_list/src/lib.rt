@@ -1,6 +1,7 @@
 // Digits in groups with strings between them (document 01, module 4; the Rust's `format_list`). It
 // answers a text and its length, or refusal 1, 2 or 8.
 #![tactic(auto)]
+
 ghost use Rattle.std.specs.Prelude.{◌≡◌, cond, not, ◌||◌, ◌&&◌, ◌++◌, ◌+◌, ◌-◌, ◌*◌, ◌≤◌, ◌<◌, ◌^◌, eqb, length};
 ghost use Rattle.bitvec.specs.Size.{ceil_div};
 ghost use Rattle.output.specs.Pieces.{pieces, joined, leading};

@@ -383,6 +383,7 @@ fn write_logisim(image: &[u8], bits: usize, width: usize, chunks: usize, out: &m
 }
 
 // Chunks of 1 to 4,096 bits in hexadecimal.
+#[tactic(auto, using(bitvec::proofs::Size::size_good, outcome::proofs::Outcome::inside), unfolding(crate::specs::Logisim::logisim_outcome))]
 pub fn format_logisim(image: &[u8], bits: usize, bits_per_chunk: usize, out: &mut [u8]) -> Export
     ensures { Exports (logisim_outcome image.now bits bits_per_chunk (length out.old)) result out.old out.new }
 {

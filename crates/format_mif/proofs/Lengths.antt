@@ -2,14 +2,15 @@
 -- Assumes nothing.
 use mathlib.Core.Path.{◌≡◌, ◌∙◌}
 use mathlib.Core.List.{List}
-use Prim.Native.Nat.{ℕ, ◌+◌, ◌-◌, ◌*◌, max}
+use Prim.Native.Nat.{ℕ, ◌+◌, ◌-◌, ◌*◌, ◌^◌, ◌≤◌, max}
+use native.Mathlib.Nat.{mul-le-mul}
 use native.Mathlib.Omega.{arith}
 use lib.ListN.{length, length-append}
 use Rattle.bitvec.specs.Size.{ceil_div}
 use Rattle.output.specs.Pieces.{pieces}
 use Rattle.output.proofs.Pieces.{pieces_length}
 use Rattle.numbers.specs.Digits.{byte_text, digit_count}
-use Rattle.numbers.proofs.Digits.{number_length, padded_length, count_rises}
+use Rattle.numbers.proofs.Digits.{number_length, padded_length, count_rises, count_small}
 use Rattle.format_mif.specs.Mif.{mif_line, mif_text}
 
 -- A line of the memory initialization file: its address, and seven characters.
@@ -31,3 +32,9 @@ mif_length bytes len =
     let lines = pieces_length (mif_line bytes len (digit_count 16 last)) (digit_count 16 last + 7) (ceil_div len 8) (λ k h.
     mif_line_length bytes len (digit_count 16 last) k ∙ omega (arith, count_rises 16 (omega arith) k last (omega arith))) in
     omega (arith, mif_parts bytes len)
+
+-- The digits of the last address and of the number of bytes are few, and so are the characters of the lines.
+pub counts_few : (n : ℕ) → n ≤ 2 ^ 24 → (digit_count 16 (n - 1) ≤ 24) × (digit_count 10 n ≤ 25) × (n * (digit_count 16 (n - 1) + 7) ≤ 2 ^ 24 * 31)
+counts_few n h =
+    let width = count_small 16 (omega arith) 23 (n - 1) (omega arith) in
+    (width, count_small 10 (omega arith) 24 n (omega arith), mul-le-mul {n₂ = 2 ^ 24} {m₂ = 31} h (omega arith))

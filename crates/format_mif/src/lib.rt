@@ -15,6 +15,7 @@ use numbers::Letters;
 use outcome::Export;
 
 // The length of the file of `count` bytes whose addresses have `width` digits.
+#[tactic(auto, using(crate::proofs::Lengths::counts_few))]
 fn mif_length(count: usize, width: usize) -> usize
     requires { (count ≤ 2 ^ 24) × (width ≡ digit_count 16 (count - 1)) }
     ensures { (bytes : List ℕ) (len : ℕ) → count ≡ ceil_div len 8 → length (mif_text bytes len) ≡ result }
@@ -101,6 +102,7 @@ fn put_mif_lines(
 }
 
 // Stores the file, of `count` bytes.
+#[tactic(auto, using(crate::proofs::Lengths::mif_parts, numbers::proofs::Digits::number_length))]
 fn write_mif(image: &[u8], bits: usize, count: usize, width: usize, out: &mut [u8]) -> usize
     requires { (count ≤ 2 ^ 24) × (count ≡ ceil_div bits 8) × (width ≡ digit_count 16 (count - 1)) × (length (mif_text image.now bits) ≤ length out.old) }
     ensures { Writes (mif_text image.now bits) out.old 0 out.new result }
@@ -117,6 +119,7 @@ fn write_mif(image: &[u8], bits: usize, count: usize, width: usize, out: &mut [u
 }
 
 // A line for each byte of an image that is not empty.
+#[tactic(auto, using(bitvec::proofs::Size::size_good, outcome::proofs::Outcome::exports_text, outcome::proofs::Outcome::exports_no_room), unfolding(bitvec::specs::Size::ceil_div, crate::specs::Mif::mif_outcome))]
 pub fn format_mif(image: &[u8], bits: usize, out: &mut [u8]) -> Export
     ensures { Exports (mif_outcome image.now bits (length out.old)) result out.old out.new }
 {

@@ -1,6 +1,7 @@
 // The plain exporters (document 01, module 2): the binary file and the digits of an image. Each
 // answers a text and its length, or refusal 1, 2 or 8.
 #![tactic(auto)]
+
 mod binary;
 mod digit_str;
 

@@ -1,11 +1,10 @@
 -- Lines of whole bytes are rows of bytes.
 -- Assumes nothing.
-use mathlib.Core.Path.{◌≡◌, refl, sym, ap, ◌∙◌}
+use mathlib.Core.Path.{◌≡◌, sym, ap, ◌∙◌}
 use mathlib.Core.List.{List, ◌++◌}
 use Prim.Native.Nat.{ℕ, ◌+◌, ◌-◌, ◌*◌, ◌/◌, ◌%◌, ◌<◌, ◌≤◌, min}
 use native.Mathlib.Omega.{arith}
 use native.Mathlib.Nat.{mul_assoc, zero-add, le_of_mul-le-mul_right}
-use lib.ListN.{length, length-append}
 use Rattle.bitvec.specs.Size.{ceil_div}
 use Rattle.bitvec.proofs.Size.{ceil_covers}
 use Rattle.output.specs.Ascii.{ascii}
@@ -13,7 +12,7 @@ use Rattle.output.specs.Pieces.{pieces}
 use Rattle.output.proofs.Pieces.{pieces_none, pieces_append, pieces_equal}
 use Rattle.rows.specs.Rows.{bytes_text, rows_text}
 use Rattle.output.proofs.Order.{stride}
-use Rattle.digits.specs.Run.{run, short_digit, hex_line}
+use Rattle.digits.specs.Run.{short_digit, hex_line}
 use Rattle.image_parts.specs.Parts.{part_bits}
 use Rattle.digits.proofs.Run.{bytes_run}
 use Rattle.format_readmem.specs.declared.Readmem.{Readmem}

@@ -1,6 +1,7 @@
 // The memory files of Verilog (document 01, module 3; the Rust's `format_readmemb` and
 // `format_readmemh`). Each answers a text and its length, or refusal 1, 2 or 8.
 #![tactic(auto)]
+
 ghost use Rattle.std.specs.Prelude.{◌≡◌, List, ℕ, ◌+◌, ◌-◌, ◌*◌, ◌%◌, ◌≤◌, ◌<◌, ◌^◌, length};
 ghost use Rattle.bitvec.specs.Size.{ceil_div};
 ghost use Rattle.output.specs.Pieces.{pieces};

@@ -10,6 +10,7 @@ use byte_lines::LineStart;
 use outcome::Export;
 
 // The bytes in radix 10 or 16, with a separator of at most 256 bytes and sixteen bytes a line.
+#[tactic(auto, using(bitvec::proofs::Size::size_good, outcome::proofs::Outcome::short), unfolding(bitvec::specs::Size::ceil_div, crate::specs::Separator::separator_outcome))]
 pub fn format_separator(
     image: &[u8],
     bits: usize,

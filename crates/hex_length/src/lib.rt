@@ -1,6 +1,7 @@
 // What is known of the records of blocks without writing them: their length, and whether an address
 // does not fit.
 #![tactic(auto)]
+
 ghost use Rattle.std.specs.Prelude.{◌≡◌, true, false, List, ℕ, ◌+◌, ◌*◌, ◌≤◌, ◌<◌, ◌^◌, length};
 ghost use Rattle.bitvec.specs.Size.{ceil_div};
 ghost use Rattle.hex_records.specs.Plan.{block_plan, hex_plan, too_high, blocks_at};

@@ -1,5 +1,6 @@
 // Lines in hexadecimal whose first digit may be short. A line of few bits is cut out of one word.
 #![tactic(auto)]
+
 ghost use Rattle.std.specs.Prelude.{◌≡◌, true, ◌+◌, ◌*◌, ◌/◌, ◌≤◌, ◌<◌, ◌^◌, min, length};
 ghost use Rattle.output.specs.Writes.{Writes};
 ghost use Rattle.bitvec.specs.Bits.{bits_at};

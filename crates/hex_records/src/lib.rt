@@ -1,6 +1,7 @@
 // A record of an Intel HEX file (document 01, module 8), which is a line. The crate `hex_text` cuts blocks
 // into records.
 #![tactic(auto)]
+
 ghost use Rattle.std.specs.Prelude.{◌≡◌, ◌+◌, ◌*◌, ◌/◌, ◌%◌, ◌^◌, ◌<◌, ◌≤◌, true, [], ◌∷◌, ◌++◌, length};
 ghost use Rattle.std.proofs.lemmas.List.Edits.{sets};
 ghost use Rattle.output.specs.Ascii.{ascii};

@@ -2,6 +2,7 @@
 // these into records of 32, the last shorter. A record of one byte has a writer of its own, for which
 // the digits of all bytes are stored first where there are many blocks.
 #![tactic(auto)]
+
 ghost use Rattle.std.specs.Prelude.{◌≡◌, ◌+◌, ◌*◌, ◌/◌, ◌%◌, ◌^◌, ◌<◌, ◌≤◌, true, [], ◌∷◌, ◌++◌, length};
 ghost use mathlib.Core.List.{flat_map};
 ghost use Rattle.numbers.specs.declared.Letters.TheVariants.{Upper};

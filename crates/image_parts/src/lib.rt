@@ -1,5 +1,6 @@
 // An image cut into parts of one width, the last one perhaps shorter.
 #![tactic(auto)]
+
 ghost use Rattle.std.specs.Prelude.{◌≡◌, cond, ◌+◌, ◌*◌, ◌/◌, ◌%◌, ◌<◌, ◌^◌, eqb};
 
 // The length of a text with one piece for each part of `width` bits: `full` for a whole part, `last`

@@ -1,6 +1,7 @@
 // The work of the bench program (document 01, "The bench program"): one job, its image and its spans,
 // exported as Intel HEX.
 #![tactic(auto)]
+
 ghost use Rattle.std.specs.Prelude.{◌≡◌, false, ◌+◌, ◌*◌, ◌≤◌, ◌<◌, ◌^◌, length, get_or, take, drop};
 ghost use Rattle.bitvec.specs.Size.{ceil_div};
 ghost use Rattle.output.specs.Writes.{Writes};

@@ -1,5 +1,6 @@
 // The answer of an export, and the tests that tell an option outside its range.
 #![tactic(auto)]
+
 ghost use Rattle.std.specs.Prelude.{◌≡◌};
 ghost use Rattle.outcome.specs.Outcome.{answer_of, outside, too_long};
 

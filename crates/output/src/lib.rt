@@ -1,6 +1,7 @@
 // The output buffer and what is written into it. A writer stores from `at` on and answers the place
 // behind what it wrote; its caller has shown that there is room.
 #![tactic(auto)]
+
 ghost use Rattle.std.specs.Prelude.{◌≡◌, [], ◌∷◌, ◌+◌, ◌-◌, ◌*◌, ◌/◌, ◌≤◌, ◌<◌, ◌^◌, max, min, length, replicate};
 ghost use Rattle.output.specs.Pieces.{leading, every};
 ghost use Rattle.output.specs.Writes.{Writes};

@@ -2,6 +2,7 @@
 // that write lines, chunks or groups of whole bytes. All bytes are in the image, which the caller has
 // shown, so that none is tested here.
 #![tactic(auto)]
+
 ghost use Rattle.std.specs.Prelude.{[], ◌∷◌, ◌++◌, ◌+◌, ◌*◌, ◌≤◌, ◌<◌, length};
 ghost use Rattle.output.specs.Writes.{Writes};
 ghost use Rattle.numbers.specs.Digits.{digits_of};

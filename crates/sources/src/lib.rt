@@ -1,6 +1,7 @@
 // The two source texts that a listing shows parts of: the firmware's, which is file 0, and the
 // protocol's, which is file 1.
 #![tactic(auto)]
+
 ghost use Rattle.std.specs.Prelude.{◌≡◌, ◌≤◌, max, length};
 ghost use Rattle.sources.specs.Sources.{source, excerpt_of, bad_text};
 

@@ -1,6 +1,7 @@
 // The range of a span list, which is lent as two slices of numbers, the offsets, with 4294967295 for
 // an absent one, and the sizes: refusal 3 of document 01.
 #![tactic(auto)]
+
 ghost use Rattle.std.specs.Prelude.{◌≡◌, ℕ, ◌<◌, length};
 ghost use Rattle.span_range.specs.AtMost.{AtMost};
 ghost use Rattle.span_range.specs.Range.{long_list, bad_span, fault_at};

@@ -1,6 +1,7 @@
 // The eight digits that a number ends with. Those of 2, 3 and 5 bits are computed in one word by fixed
 // shifts and masks, the first digit in its lowest byte, and stored at once.
 #![tactic(auto)]
+
 ghost use Rattle.std.specs.Prelude.{◌≡◌, [], ◌∷◌, ◌+◌, ◌≤◌, ◌<◌, length};
 ghost use Rattle.output.specs.Writes.{Writes};
 ghost use Rattle.numbers.specs.Digits.{digits_of};

@@ -1,7 +1,7 @@
 -- `bitvec::read_each` meets its contract: after k turns the digit is that of the first k bits.
 -- Assumes nothing.
 use mathlib.Core.Path.{refl, ap, ◌∙◌}
-use Prim.Native.Nat.{◌+◌, ◌-◌}
+use Prim.Native.Nat.{◌+◌}
 use native.Mathlib.Omega.{arith}
 use borrow.Author.Rules.{rules}
 use Rattle.bitvec.specs.Bits.{bits_at}

@@ -18,11 +18,6 @@ use Rattle.byte_lines.proofs.put_list.Goals as goal
 pub loop-k-init : goal.loop-k-init
 loop-k-init c = (search rules, rw joined_none (writes_nothing _ _), refl)
 
-pub byte_of-byte-requires : goal.byte_of-byte-requires
-byte_of-byte-requires c =
-    let whole = c.whole_bytes-whole.ensures in
-    (omega arith, whole.1, whole.2)
-
 pub put_between-next-requires : goal.put_between-next-requires
 unfolding byte_list
 put_between-next-requires c =
@@ -38,9 +33,6 @@ put_byte_in-next-requires c =
     let one = joined_room (gap a.separator.now (line_start a.start)) (item a.radix a.image.now a.bits) c.loop-k.k (ceil_div a.bits 8) (omega arith) in
     omega (arith, c.requires.2, c.loop-k.invariant.1.next) in
     rw c.byte_of-byte.ensures (omega (arith, room, c.put_between-next.ensures.next))
-
-pub line_rest-more-requires : goal.line_rest-more-requires
-line_rest-more-requires c = omega (arith, c.loop-k-test.true)
 
 pub put_items-next-requires : goal.put_items-next-requires
 unfolding byte_list
@@ -64,9 +56,6 @@ put_items-next-requires c =
         c.requires.2,
       );
     }
-
-pub loop-k-smaller : goal.loop-k-smaller
-loop-k-smaller c = omega (arith, c.loop-k-test.true)
 
 pub loop-k-preserved : goal.loop-k-preserved
 loop-k-preserved c =

@@ -73,8 +73,3 @@ loop-j-preserved c =
           (writes_then l.invariant.1 (writes_then (writes_then c.put-next.ensures c.put-next-in-loop-j.ensures) c.put_byte_in-next.ensures)),
       omega (arith, l.invariant.2, writes_length c.put-next.ensures, writes_length c.put-next-in-loop-j.ensures, writes_length c.put_byte_in-next.ensures),
     )
-
-pub returns : goal.returns
-returns c =
-    let done : c.loop-j.j ≡ c.args.count = omega arith in
-    rw done at c.loop-j.invariant.1

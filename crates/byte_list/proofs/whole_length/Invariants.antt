@@ -5,7 +5,6 @@ use lib.ListN.{length}
 use Rattle.bitvec.specs.Bits.{byte_at}
 use Rattle.output.specs.Pieces.{pieces}
 use Rattle.byte_list.specs.Bytes.{byte_in}
-use Rattle.byte_list.proofs.Lengths as lengths
 use Rattle.byte_list.proofs.whole_length.Given as goal
 
 -- byte k

@@ -1,7 +1,7 @@
 -- `digit_groups::put_blocks` meets its contract: after k groups these are written, and the next block starts behind them.
 -- Assumes nothing.
 use mathlib.Core.Path.{◌≡◌, refl, ap}
-use Prim.Native.Nat.{◌+◌, ◌-◌, ◌*◌, ◌≤◌}
+use Prim.Native.Nat.{◌+◌, ◌*◌, ◌≤◌}
 use native.Mathlib.Omega.{arith}
 use native.Mathlib.Nat.{mul-le-mul_right}
 use lib.ListN.{length, length-append}
@@ -26,7 +26,8 @@ put_block-next-requires c =
     let small = c.requires.small in
     let n = c.smaller-groups.result in
     let before = joined (string_at a.every a.between.now a.between2.now) (group_at a.bytes.now a.len a.width a.size) l.k in
-    let mine = groups_text a.every a.between.now a.between2.now a.bytes.now a.len a.width a.size l.k n in record { small = (
+    let mine = groups_text a.every a.between.now a.between2.now a.bytes.now a.len a.width a.size l.k n in record {
+      small = (
         small.0,
         small.1,
         small.2,
@@ -34,7 +35,8 @@ put_block-next-requires c =
         few,
         omega (arith, within),
         omega (arith, mul-le-mul_right (a.size * a.width) (within), small.4),
-      ); room = omega (
+      );
+      room = omega (
         arith,
         l.invariant.1.next,
         l.invariant.2,
@@ -42,7 +44,8 @@ put_block-next-requires c =
         length-append before mine,
         joined_longer a.every a.between.now a.between2.now a.bytes.now a.len a.width a.size (l.k + n) a.count (within),
         c.requires.room,
-      ) }
+      );
+    }
 
 pub overflow_add-k : goal.overflow_add-k
 overflow_add-k c =

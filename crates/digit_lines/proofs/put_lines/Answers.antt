@@ -1,7 +1,7 @@
 -- `digit_lines::put_lines` meets its contract: after k lines these are written, and the next block starts behind them.
 -- Assumes nothing.
 use mathlib.Core.Path.{◌≡◌, refl}
-use Prim.Native.Nat.{◌+◌, ◌-◌, ◌*◌, ◌≤◌, ◌<◌, ◌^◌}
+use Prim.Native.Nat.{◌+◌, ◌*◌, ◌≤◌, ◌<◌, ◌^◌}
 use native.Mathlib.Omega.{arith}
 use native.Mathlib.Nat.{add-mul, mul_assoc, mul-le-mul_right}
 use borrow.Author.Rules.{rules}
@@ -25,8 +25,11 @@ put_block-next-requires c =
     let l = c.loop-k in
     let a = c.args in
     let n = c.smaller-lines.result in
-    let written = lines_length a.bytes.now a.len a.width a.from.0 a.size a.tail l.k in record { small = (c.requires.small.0, few, ends); room = omega
-          (arith, l.invariant.2.next, l.invariant.3, written, add-mul l.k n (a.size + 1), mul-le-mul_right (a.size + 1) (within), c.requires.room) }
+    let written = lines_length a.bytes.now a.len a.width a.from.0 a.size a.tail l.k in record {
+      small = (c.requires.small.0, few, ends);
+      room = omega
+          (arith, l.invariant.2.next, l.invariant.3, written, add-mul l.k n (a.size + 1), mul-le-mul_right (a.size + 1) (within), c.requires.room);
+    }
 
 pub overflow_mul-offset : goal.overflow_mul-offset
 overflow_mul-offset c =

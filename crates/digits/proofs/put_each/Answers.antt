@@ -1,7 +1,6 @@
 -- `digits::put_each` meets its contract: after k turns k digits are written, and the next begins k widths from the start.
 -- Assumes nothing.
 use mathlib.Core.Path.{◌≡◌, refl}
-use Prim.Native.Nat.{◌-◌}
 use native.Mathlib.Nat.{add-zero, zero-mul, suc-mul}
 use native.Mathlib.Omega.{arith}
 use borrow.Author.Rules.{rules}

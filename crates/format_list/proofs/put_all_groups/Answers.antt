@@ -31,13 +31,16 @@ put_groups-requires c =
     let digit_groups : (let a = c.args in joined (between_groups a.options a.between.now a.between2.now) (group_text a.options a.image.now a.bits) a.count ≡ joined (string_at c.segment-every.result a.between.now a.between2.now) (group_at a.image.now a.bits a.width a.options.digits_per_group) a.count) = let a = c.args in
     groups_alike a.options a.between.now a.between2.now a.image.now a.bits a.width c.segment-every.result a.count c.segment-every.ensures c.requires.options.1 in
     let a = c.args in
-    let options = c.requires.options in record { small = (
+    let options = c.requires.options in record {
+      small = (
         omega (arith, options.1, base_small a.options.base),
         options.2,
         omega (arith, options.3),
         (λ p. segment_some a.between2.now options.0 p c.segment-every.ensures),
         rw options.1 (omega (arith, c.requires.size.0)),
-      ); room = rw (← digit_groups) c.requires.room }
+      );
+      room = rw (← digit_groups) c.requires.room;
+    }
 
 pub returns-then-wide-eq0 : goal.returns-then-wide-eq0
 returns-then-wide-eq0 c =

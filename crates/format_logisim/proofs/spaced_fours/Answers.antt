@@ -32,17 +32,5 @@ digits_small b = and_le_r ((b / 16 + b % 16 * 65536) * 513) 17760527
 letters_small : (b : ℕ) → letters b ≤ 65537
 letters_small b = and_le_r ((digits b + 393222) / 2 ^ 4) 65537
 
-pub overflow_add-letters : goal.overflow_add-letters
-overflow_add-letters c = omega (arith, digits_small c.args.byte)
-
-pub overflow_add-result : goal.overflow_add-result
-overflow_add-result c = omega (arith, digits_small c.args.byte)
-
-pub overflow_mul-result : goal.overflow_mul-result
-overflow_mul-result c = omega (arith, letters_small c.args.byte)
-
-pub overflow_add-result-2 : goal.overflow_add-result-2
-overflow_add-result-2 c = omega (arith, digits_small c.args.byte, letters_small c.args.byte)
-
 pub returns : goal.returns
 returns c = exhaust (λ b. four_bytes (word b)) (spaced_digits 4 2) 256 right c.args.byte (omega arith)

@@ -8,11 +8,6 @@ use Rattle.bitvec.specs.Size.{ceil_div}
 use Rattle.format_logisim.proofs.Lengths.{breaks_lines}
 use Rattle.format_logisim.proofs.whole_length.Goals as goal
 
-pub overflow_mul-lines : goal.overflow_mul-lines
-overflow_mul-lines c =
-    let lines_small : c.args.count / 128 * c.breaks.result ≤ 131072 * 128 = mul-le-mul {n₂ = 131072} {m₂ = 128} (omega (arith, c.requires.1)) c.breaks.ensures.1 in
-    omega (arith, lines_small)
-
 pub overflow_add-result : goal.overflow_add-result
 unfolding ceil_div
 overflow_add-result c =
@@ -25,11 +20,6 @@ overflow_mul-result c =
     let digits_small : c.parts-digits.result ≤ 1024 = omega (arith, c.parts-digits.ensures, c.requires.0) in
     let chunks_small : c.args.count * (c.parts-digits.result + 1) ≤ 16777216 * 1025 = mul-le-mul {n₂ = 16777216} {m₂ = 1025} c.requires.1 (omega (arith, digits_small)) in
     omega (arith, chunks_small)
-
-pub overflow_add-result-2 : goal.overflow_add-result-2
-overflow_add-result-2 c =
-    let lines_small : c.args.count / 128 * c.breaks.result ≤ 131072 * 128 = mul-le-mul {n₂ = 131072} {m₂ = 128} (omega (arith, c.requires.1)) c.breaks.ensures.1 in
-    omega (arith, lines_small, c.breaks-2.ensures.1)
 
 pub overflow_add-result-3 : goal.overflow_add-result-3
 unfolding ceil_div

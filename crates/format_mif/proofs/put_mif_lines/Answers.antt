@@ -15,9 +15,6 @@ loop-row-init c =
     let none : min (0 * 16) c.args.count ≡ 0 = omega arith in
     (omega arith, rw (none, pieces_none) (writes_nothing _ _), refl)
 
-pub overflow_mul-row : goal.overflow_mul-row
-overflow_mul-row c = omega (arith, c.loop-row.invariant.0)
-
 pub put_mif_row-next-requires : goal.put_mif_row-next-requires
 put_mif_row-next-requires c =
     let l = c.loop-row in
@@ -30,10 +27,6 @@ put_mif_row-next-requires c =
     let done : min (l.row * 16) a.count ≡ l.row * 16 = omega (arith, c.loop-row-test.true) in
     let place = rw done at l.invariant.1.next in record { bytes = (omega (arith, some, c.loop-row-test.true, c.requires.0), whole.1, whole.2); fits = (omega (arith, some), omega (arith, rises, c.requires.1), omega (arith, hex_count 5 (a.count - 1) (omega (arith, c.requires.0)), c.requires.1)); room = omega (arith, room, place, l.invariant.2, c.requires.2) }
 
-pub loop-row-smaller : goal.loop-row-smaller
-loop-row-smaller c =
-    omega (arith, c.loop-row-test.true)
-
 pub loop-row-preserved : goal.loop-row-preserved
 loop-row-preserved c =
     let l = c.loop-row in
@@ -45,8 +38,3 @@ loop-row-preserved c =
       rw (more, pieces_append) (writes_then (rw done at l.invariant.1) c.put_mif_row-next.ensures),
       omega (arith, l.invariant.2, writes_length c.put_mif_row-next.ensures),
     )
-
-pub returns : goal.returns
-returns c =
-    let all : min (c.loop-row.row * 16) c.args.count ≡ c.args.count = omega (arith, c.loop-row-test.false) in
-    rw all at c.loop-row.invariant.1

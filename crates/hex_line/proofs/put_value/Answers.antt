@@ -1,12 +1,11 @@
 -- `hex_line::put_value` meets its contract: after k turns k digits are written.
 -- Assumes nothing.
 use mathlib.Core.Path.{◌≡◌, refl}
-use Prim.Native.Nat.{◌-◌}
 use native.Mathlib.Omega.{arith}
 use borrow.Author.Rules.{rules}
 use Rattle.output.proofs.Pieces.{pieces_none, pieces_next}
 use Rattle.output.proofs.Writes.{writes_nothing, writes_then, writes_length}
-use Rattle.numbers.specs.Digits.{digit_char, digits_of}
+use Rattle.numbers.specs.Digits.{digits_of}
 use Rattle.hex_line.proofs.put_value.Goals as goal
 
 pub loop-k-init : goal.loop-k-init

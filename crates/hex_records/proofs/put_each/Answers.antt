@@ -1,6 +1,6 @@
 -- `hex_records::put_each` meets its contract: after k turns k bytes are written and added.
 -- Assumes nothing.
-use Rattle.std.proofs.Common.{◌≡◌, ◌+◌, ◌-◌, ◌*◌, [], ◌∷◌, refl, arith, rules}
+use Rattle.std.proofs.Common.{◌≡◌, ◌+◌, ◌*◌, [], ◌∷◌, refl, arith, rules}
 use Rattle.bitvec.specs.Bits.{bits_at}
 use Rattle.numbers.specs.Digits.{byte_text}
 use Rattle.output.proofs.Writes.{writes_nothing, writes_then}

@@ -1,6 +1,6 @@
 -- `hex_records::put_whole` meets its contract: after k turns k bytes are written and added.
 -- Assumes nothing.
-use Rattle.std.proofs.Common.{◌≡◌, ◌+◌, ◌-◌, ◌*◌, [], ◌∷◌, get_or, refl, arith, rules}
+use Rattle.std.proofs.Common.{◌≡◌, ◌+◌, ◌*◌, [], ◌∷◌, get_or, refl, arith, rules}
 use Rattle.numbers.specs.Digits.{byte_text}
 use Rattle.output.proofs.Writes.{writes_nothing, writes_then}
 use Rattle.hex_records.specs.Text.{bytes_from, total}

@@ -1,6 +1,6 @@
 -- `hex_text::fill_pairs` meets its contract: after k turns the digits of the first k bytes are stored.
 -- Assumes nothing.
-use Rattle.std.proofs.Common.{◌≡◌, ℕ, ◌+◌, ◌-◌, ◌/◌, ◌%◌, ◌<◌, List, [], ◌∷◌, length, get_or, set, arith, get_or-set_other, get_or-set_same, rules, below_none, below_more}
+use Rattle.std.proofs.Common.{◌≡◌, ℕ, ◌+◌, ◌/◌, ◌%◌, ◌<◌, List, [], ◌∷◌, length, get_or, set, arith, get_or-set_other, get_or-set_same, rules, below_none, below_more}
 use Rattle.numbers.specs.declared.Letters.TheVariants.{Upper}
 use Rattle.numbers.specs.Digits.{byte_text}
 use Rattle.hex_text.proofs.fill_pairs.Goals as goal

@@ -1,6 +1,6 @@
 -- `hex_text::put_blocks` meets its contract: after k turns the records of k blocks are written.
 -- Assumes nothing.
-use Rattle.std.proofs.Common.{◌≡◌, ℕ, ◌-◌, ◌≤◌, List, length, refl, arith, rules}
+use Rattle.std.proofs.Common.{◌≡◌, ℕ, ◌≤◌, List, length, refl, arith, rules}
 use mathlib.Core.List.{flat_map}
 use Rattle.output.specs.Pieces.{pieces}
 use Rattle.output.proofs.Pieces.{pieces_none, pieces_next, pieces_room}

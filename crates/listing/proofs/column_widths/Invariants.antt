@@ -1,5 +1,5 @@
 use mathlib.Core.Path.{◌≡◌}
-use Prim.Native.Nat.{◌-◌, ◌≤◌}
+use Prim.Native.Nat.{◌≤◌}
 use lib.ListN.{length}
 use Rattle.listing.specs.Listing.{widths_of}
 use Rattle.listing.proofs.column_widths.Given as goal
@@ -11,6 +11,3 @@ invariant-loop-p l = (l.p ≤ length l.offsets)
     × (l.widths.outp_bit ≤ 64)
     × (l.widths.addr ≤ 64)
     × (l.widths.content ≤ 324)
-
-abbrev pub decreases-loop-p : goal.decreases-loop-p
-decreases-loop-p l = length l.offsets - l.p

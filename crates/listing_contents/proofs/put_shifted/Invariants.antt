@@ -1,5 +1,5 @@
 use mathlib.Core.Path.{◌≡◌}
-use Prim.Native.Nat.{◌+◌, ◌-◌, ◌*◌, ◌≤◌}
+use Prim.Native.Nat.{◌+◌, ◌*◌, ◌≤◌}
 use lib.ListN.{length}
 use Rattle.output.specs.Writes.{Writes}
 use Rattle.rows.specs.Rows.{digits_per_byte, digit_bits}
@@ -10,6 +10,3 @@ abbrev pub invariant-loop-k : goal.invariant-loop-k
 invariant-loop-k l = (l.k ≤ l.count)
     × Writes (groups l.image l.bits (digit_bits l.kind) (digits_per_byte l.kind) (l.first * 8 + l.shift) l.k) l.initial.out l.at l.out l.next
     × (length l.out ≡ length l.initial.out)
-
-abbrev pub decreases-loop-k : goal.decreases-loop-k
-decreases-loop-k l = l.count - l.k

@@ -1,6 +1,6 @@
 use mathlib.Core.Path.{◌≡◌}
 use mathlib.Core.List.{List}
-use Prim.Native.Nat.{ℕ, ◌-◌, ◌*◌, ◌≤◌, ◌<◌, ◌^◌}
+use Prim.Native.Nat.{ℕ, ◌*◌, ◌≤◌, ◌<◌, ◌^◌}
 use lib.ListN.{length, get_or}
 use Rattle.output.specs.Pieces.{pieces}
 use Rattle.listing.specs.Listing.{spans_of, line_at}
@@ -11,6 +11,3 @@ invariant-loop-k l = (l.k ≤ length l.places)
     × ((bytes : List ℕ) (len : ℕ) → length (pieces (λ j. line_at l.options l.widths bytes len (spans_of l.offsets l.sizes l.addrs l.files l.starts l.ends) l.firmware l.protocol (get_or l.places j 0)) l.k) ≡ l.needed)
     × (l.needed ≤ l.k * 2 ^ 35)
     × ((j : ℕ) → j < length l.places → get_or l.places j 0 < length l.offsets)
-
-abbrev pub decreases-loop-k : goal.decreases-loop-k
-decreases-loop-k l = length l.places - l.k

@@ -1,7 +1,6 @@
 -- `output::put_all` meets its contract: after i turns the first i bytes of s are written.
 -- Assumes nothing.
 use mathlib.Core.Path.{refl}
-use Prim.Native.Nat.{◌-◌}
 use native.Mathlib.Numerals.{add-one}
 use lib.Seq.{take-suc, take_all}
 use borrow.Author.Rules.{rules}

@@ -1,7 +1,6 @@
 -- `output::put_fill` meets its contract: after i turns i bytes are written.
 -- Assumes nothing.
 use mathlib.Core.Path.{◌≡◌, refl}
-use Prim.Native.Nat.{◌-◌}
 use native.Mathlib.Omega.{arith}
 use lib.ListN.{replicate-append-replicate}
 use borrow.Author.Rules.{rules}

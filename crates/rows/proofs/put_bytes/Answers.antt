@@ -1,7 +1,7 @@
 -- `rows::put_bytes` meets its contract: after j turns j bytes are written.
 -- Assumes nothing.
 use mathlib.Core.Path.{◌≡◌, refl}
-use Prim.Native.Nat.{◌+◌, ◌-◌}
+use Prim.Native.Nat.{◌+◌}
 use native.Mathlib.Omega.{arith}
 use borrow.Author.Rules.{rules}
 use Rattle.bitvec.proofs.Words.{byte_whole}

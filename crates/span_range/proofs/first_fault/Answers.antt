@@ -1,12 +1,10 @@
 -- `span_range::first_fault` meets its contract: no span before place p is bad.
 -- Assumes nothing.
 use mathlib.Core.Path.{◌≡◌, sym, ◌∙◌}
-use mathlib.Core.Bool.{false}
-use Prim.Native.Nat.{◌-◌}
 use native.Mathlib.Omega.{arith}
 use lib.ListN.{length}
 use borrow.Author.Count.{below_none, below_more}
-use Rattle.span_range.specs.Range.{bad_span, fault_at}
+use Rattle.span_range.specs.Range.{fault_at}
 use Rattle.ordering.proofs.Lists.{first_at, first_all}
 use borrow.Author.Rules.{rules}
 use Rattle.span_range.proofs.first_fault.Goals as goal

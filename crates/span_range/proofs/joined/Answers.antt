@@ -1,6 +1,5 @@
 -- `span_range::joined` meets its contract: after k turns no number of the first k spans is above.
 -- Assumes nothing.
-use Prim.Native.Nat.{◌-◌}
 use native.Mathlib.Omega.{arith}
 use borrow.Author.Count.{below_none}
 use Rattle.span_range.proofs.Bits.{joined_more}

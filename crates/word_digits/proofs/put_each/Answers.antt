@@ -8,7 +8,7 @@ use lib.Pow.{pow_pos, pow_mono}
 use borrow.Author.Rules.{rules}
 use Rattle.output.proofs.Pieces.{pieces_none, pieces_next}
 use Rattle.output.proofs.Writes.{writes_nothing, writes_then, writes_length}
-use Rattle.numbers.specs.Digits.{digit_char, digits_of}
+use Rattle.numbers.specs.Digits.{digits_of}
 use Rattle.word_digits.proofs.put_each.Goals as goal
 
 -- The base of digits of at most five bits, as a shift computes it.

@@ -16,7 +16,7 @@ use Rattle.format_plain.proofs.binary.format_binary.Goals as goal
 
 pub returns-then-bad_size : goal.returns-then-bad_size
 unfolding binary_outcome
-returns-then-bad_size c = 
+returns-then-bad_size c =
     let bad = sym c.bad_size.ensures ∙ c.if-bad_size.true in
     record { exports = simp bad (record { answered = refl; buffer = refl }); padding = simp bad refl }
 

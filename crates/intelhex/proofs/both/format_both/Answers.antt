@@ -7,5 +7,9 @@ pub returns : goal.returns
 returns c =
     let a = c.args in
     let one = c.format_intelhex-one in
-    let two = c.format_intelhex-two in record { first = one.ensures; second = two.ensures; rule = calls_rule a.first.now a.bits a.second.now a.bits2 a.offsets.now a.sizes.now a.unit one.result two.result
-            a.out.now one.new.out a.out2.now two.new.out one.ensures two.ensures }
+    let two = c.format_intelhex-two in record {
+      first = one.ensures;
+      second = two.ensures;
+      rule = calls_rule a.first.now a.bits a.second.now a.bits2 a.offsets.now a.sizes.now a.unit one.result two.result
+          a.out.now one.new.out a.out2.now two.new.out one.ensures two.ensures;
+    }

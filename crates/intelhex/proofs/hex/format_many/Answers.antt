@@ -6,6 +6,9 @@ use Rattle.intelhex.proofs.hex.format_many.Goals as goal
 
 pub format_found-requires : goal.format_found-requires
 format_found-requires c =
-    record { unit = c.requires; room = λ e.
+    record {
+      unit = c.requires;
+      room = λ e.
           let short = (short_list c.args.offsets.now c.args.sizes.now e).0 in
-          (omega (arith, c.words-block_offsets.ensures), omega (arith, c.words-block_sizes.ensures)) }
+          (omega (arith, c.words-block_offsets.ensures), omega (arith, c.words-block_sizes.ensures));
+    }
