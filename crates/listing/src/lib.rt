@@ -109,6 +109,7 @@ fn wider(
 }
 
 // The widths over all spans that have an offset.
+#[tactic(auto, using(crate::proofs::Columns::widths_absent, crate::proofs::Columns::widths_present))]
 pub fn column_widths(
     options: FormatAnnotatedOptions,
     offsets: &[u32],
