@@ -18,9 +18,14 @@ not_run() {
     exit 0
 }
 
-# Whether a file that rt made is missing, or older than a source.
+# Says beside a file that rt made which rt it was.
+made() {
+    rt version >"$1.version"
+}
+
+# Whether a file that rt made is missing, of another rt, or older than a source.
 is_missing() {
-    [ ! -f "$1" ] ||
+    [ ! -f "$1" ] || [ "$(cat "$1.version" 2>/dev/null)" != "$(rt version)" ] ||
         [ -n "$(find "$root/crates" "$root/crates.txt" -name out -prune -o -newer "$1" \
             \( -name '*.rt' -o -name '*.antt' -o -name crates.txt \) -print | head -n 1)" ]
 }
@@ -39,6 +44,7 @@ make_file() {
             echo "$1: $3 was not made"
             exit 1
         fi
+        made "$file"
     fi
 }
 
