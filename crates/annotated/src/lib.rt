@@ -10,8 +10,9 @@ ghost use Rattle.listing.specs.Listing.{bad_annotated, spans_of, annotated_text}
 ghost use Rattle.listing_spans.specs.Faults.{span_fault};
 ghost use Rattle.annotated.specs.Annotated.{unequal, listed_outcome, annotated_outcome};
 
+use bitvec::Image;
 use listing::FormatAnnotatedOptions;
-use outcome::Export;
+use outcome::{Export, Refusal};
 
 // Whether one of the slices but the sizes is not as long as the offsets.
 fn unequal(offsets: &[u32], addrs: &[u64], files: &[u8], starts: &[u64], ends: &[u64]) -> bool
@@ -31,8 +32,7 @@ fn unequal(offsets: &[u32], addrs: &[u64], files: &[u8], starts: &[u64], ends: &
 
 // The listing of spans that have no fault, whose places in order are lent, or refusal 8.
 fn list_in_order<'a>(
-    image: &[u8],
-    bits: usize,
+    image: Image,
     options: FormatAnnotatedOptions,
     places: &[u32],
     offsets: &[u32],
@@ -49,7 +49,7 @@ fn list_in_order<'a>(
     requires lengths { (length sizes.now ≡ length offsets.now) × (length addrs.now ≡ length offsets.now) × (length files.now ≡ length offsets.now) × (length starts.now ≡ length offsets.now) × (length ends.now ≡ length offsets.now) }
     requires sound { (length firmware.now ≤ 1048576) × (length protocol.now ≤ 1048576) × (span_fault options (spans_of offsets.now sizes.now addrs.now files.now starts.now ends.now) firmware.now protocol.now ≡ length offsets.now) }
     requires places { (length offsets.now ≤ 4096) × (places.now ≡ in_order offsets.now) }
-    ensures { Exports (in_room (length out.old) (annotated_text options image.now bits (spans_of offsets.now sizes.now addrs.now files.now starts.now ends.now) firmware.now protocol.now)) result out.old out.new }
+    ensures { Exports (in_room (length out.old) (annotated_text options image.entry.bytes.now image.entry.len (spans_of offsets.now sizes.now addrs.now files.now starts.now ends.now) firmware.now protocol.now)) result out.old out.new }
 {
     let widths = listing::column_widths(options, offsets, sizes, addrs);
     let lines = listing_spans::lines_length(
@@ -57,12 +57,12 @@ fn list_in_order<'a>(
     );
     let needed = listing::heading_length(options, widths) + lines;
     if out.len() < needed {
-        return Export::NoRoom(needed);
+        return Err(Refusal::NoRoom(needed));
     }
     let next = listing::put_heading(out, options, widths);
-    Export::Text(listing_spans::put_lines(
-        out, next, image, bits, options, widths, places, offsets, sizes, addrs, files, starts,
-        ends, firmware, protocol,
+    Ok(listing_spans::put_lines(
+        out, next, image, options, widths, places, offsets, sizes, addrs, files, starts, ends,
+        firmware, protocol,
     ))
 }
 
@@ -82,8 +82,7 @@ fn few_words() -> [u32; 64]
 
 // The listing of few spans that have no fault, or refusal 8: less memory is set to zero.
 fn list_few<'a>(
-    image: &[u8],
-    bits: usize,
+    image: Image,
     options: FormatAnnotatedOptions,
     offsets: &[u32],
     sizes: &[u32],
@@ -98,14 +97,13 @@ fn list_few<'a>(
     requires options { (bad_annotated options ≡ false) × (length offsets.now ≤ 64) }
     requires lengths { (length sizes.now ≡ length offsets.now) × (length addrs.now ≡ length offsets.now) × (length files.now ≡ length offsets.now) × (length starts.now ≡ length offsets.now) × (length ends.now ≡ length offsets.now) }
     requires sound { (length firmware.now ≤ 1048576) × (length protocol.now ≤ 1048576) × (span_fault options (spans_of offsets.now sizes.now addrs.now files.now starts.now ends.now) firmware.now protocol.now ≡ length offsets.now) }
-    ensures { Exports (in_room (length out.old) (annotated_text options image.now bits (spans_of offsets.now sizes.now addrs.now files.now starts.now ends.now) firmware.now protocol.now)) result out.old out.new }
+    ensures { Exports (in_room (length out.old) (annotated_text options image.entry.bytes.now image.entry.len (spans_of offsets.now sizes.now addrs.now files.now starts.now ends.now) firmware.now protocol.now)) result out.old out.new }
 {
     let count = offsets.len();
     let mut places = few_words();
     span_order::order_few(offsets, &mut places);
     list_in_order(
         image,
-        bits,
         options,
         &places[..count],
         offsets,
@@ -122,8 +120,7 @@ fn list_few<'a>(
 
 // The listing of spans that have no fault, up to the limit, or refusal 8.
 fn list_many<'a>(
-    image: &[u8],
-    bits: usize,
+    image: Image,
     options: FormatAnnotatedOptions,
     offsets: &[u32],
     sizes: &[u32],
@@ -138,14 +135,13 @@ fn list_many<'a>(
     requires options { (bad_annotated options ≡ false) × (length offsets.now ≤ 4096) }
     requires lengths { (length sizes.now ≡ length offsets.now) × (length addrs.now ≡ length offsets.now) × (length files.now ≡ length offsets.now) × (length starts.now ≡ length offsets.now) × (length ends.now ≡ length offsets.now) }
     requires sound { (length firmware.now ≤ 1048576) × (length protocol.now ≤ 1048576) × (span_fault options (spans_of offsets.now sizes.now addrs.now files.now starts.now ends.now) firmware.now protocol.now ≡ length offsets.now) }
-    ensures { Exports (in_room (length out.old) (annotated_text options image.now bits (spans_of offsets.now sizes.now addrs.now files.now starts.now ends.now) firmware.now protocol.now)) result out.old out.new }
+    ensures { Exports (in_room (length out.old) (annotated_text options image.entry.bytes.now image.entry.len (spans_of offsets.now sizes.now addrs.now files.now starts.now ends.now) firmware.now protocol.now)) result out.old out.new }
 {
     let count = offsets.len();
     let mut places = words();
     span_order::order(offsets, &mut places);
     list_in_order(
         image,
-        bits,
         options,
         &places[..count],
         offsets,
@@ -162,8 +158,7 @@ fn list_many<'a>(
 
 // The listing of spans that have no fault, or refusal 8.
 fn list_spans<'a>(
-    image: &[u8],
-    bits: usize,
+    image: Image,
     options: FormatAnnotatedOptions,
     offsets: &[u32],
     sizes: &[u32],
@@ -178,23 +173,21 @@ fn list_spans<'a>(
     requires options { (bad_annotated options ≡ false) × (length offsets.now ≤ 4096) }
     requires lengths { (length sizes.now ≡ length offsets.now) × (length addrs.now ≡ length offsets.now) × (length files.now ≡ length offsets.now) × (length starts.now ≡ length offsets.now) × (length ends.now ≡ length offsets.now) }
     requires sound { (length firmware.now ≤ 1048576) × (length protocol.now ≤ 1048576) × (span_fault options (spans_of offsets.now sizes.now addrs.now files.now starts.now ends.now) firmware.now protocol.now ≡ length offsets.now) }
-    ensures { Exports (in_room (length out.old) (annotated_text options image.now bits (spans_of offsets.now sizes.now addrs.now files.now starts.now ends.now) firmware.now protocol.now)) result out.old out.new }
+    ensures { Exports (in_room (length out.old) (annotated_text options image.entry.bytes.now image.entry.len (spans_of offsets.now sizes.now addrs.now files.now starts.now ends.now) firmware.now protocol.now)) result out.old out.new }
 {
     if offsets.len() <= 64 {
         return list_few(
-            image, bits, options, offsets, sizes, addrs, files, starts, ends, firmware, protocol,
-            out,
+            image, options, offsets, sizes, addrs, files, starts, ends, firmware, protocol, out,
         );
     }
     list_many(
-        image, bits, options, offsets, sizes, addrs, files, starts, ends, firmware, protocol, out,
+        image, options, offsets, sizes, addrs, files, starts, ends, firmware, protocol, out,
     )
 }
 
 // The listing of spans in their range, or refusal 6, 7 or 8.
 fn format_spans<'a>(
-    image: &[u8],
-    bits: usize,
+    image: Image,
     options: FormatAnnotatedOptions,
     offsets: &[u32],
     sizes: &[u32],
@@ -208,30 +201,29 @@ fn format_spans<'a>(
 ) -> Export
     requires options { (bad_annotated options ≡ false) × (length offsets.now ≤ 4096) }
     requires lengths { (length sizes.now ≡ length offsets.now) × (length addrs.now ≡ length offsets.now) × (length files.now ≡ length offsets.now) × (length starts.now ≡ length offsets.now) × (length ends.now ≡ length offsets.now) }
-    ensures { Exports (listed_outcome image.now bits options (spans_of offsets.now sizes.now addrs.now files.now starts.now ends.now) firmware.now protocol.now (length out.old)) result out.old out.new }
+    ensures { Exports (listed_outcome image.entry.bytes.now image.entry.len options (spans_of offsets.now sizes.now addrs.now files.now starts.now ends.now) firmware.now protocol.now (length out.old)) result out.old out.new }
 {
     if sources::bad_text(firmware) {
-        return Export::SourceText;
+        return Err(Refusal::SourceText);
     }
     if sources::bad_text(protocol) {
-        return Export::SourceText;
+        return Err(Refusal::SourceText);
     }
     let fault = listing_spans::span_fault(
         options, offsets, sizes, files, starts, ends, firmware, protocol,
     );
     if fault < offsets.len() {
-        return Export::SpanFault(fault);
+        return Err(Refusal::SpanFault(fault));
     }
     list_spans(
-        image, bits, options, offsets, sizes, addrs, files, starts, ends, firmware, protocol, out,
+        image, options, offsets, sizes, addrs, files, starts, ends, firmware, protocol, out,
     )
 }
 
 // The listing of the lent spans. A span is an offset, with 4294967295 for an absent one, a size, a
 // logical address, a file, and a start and an end there, in six slices of one length.
 pub fn format_annotated<'a>(
-    image: &[u8],
-    bits: usize,
+    image: Image,
     offsets: &[u32],
     sizes: &[u32],
     addrs: &[u64],
@@ -243,25 +235,25 @@ pub fn format_annotated<'a>(
     options: FormatAnnotatedOptions,
     out: &mut [u8],
 ) -> Export
-    ensures { Exports (annotated_outcome image.now bits options (spans_of offsets.now sizes.now addrs.now files.now starts.now ends.now) firmware.now protocol.now (length out.old)) result out.old out.new }
+    ensures { Exports (annotated_outcome image.entry.bytes.now image.entry.len options (spans_of offsets.now sizes.now addrs.now files.now starts.now ends.now) firmware.now protocol.now (length out.old)) result out.old out.new }
 {
-    if bitvec::bad_size(image, bits) {
-        return Export::ImageSize;
+    if image.bad_size() {
+        return Err(Refusal::ImageSize);
     }
     if listing::bad_annotated(options) {
-        return Export::OptionRange;
+        return Err(Refusal::OptionRange);
     }
     if unequal(offsets, addrs, files, starts, ends) {
-        return Export::SpanRange(4096);
+        return Err(Refusal::SpanRange(4096));
     }
     if span_range::long_list(offsets, sizes) {
-        return Export::SpanRange(4096);
+        return Err(Refusal::SpanRange(4096));
     }
     let bad = span_range::fault_at(offsets, sizes);
     if bad < offsets.len() {
-        return Export::SpanRange(bad);
+        return Err(Refusal::SpanRange(bad));
     }
     format_spans(
-        image, bits, options, offsets, sizes, addrs, files, starts, ends, firmware, protocol, out,
+        image, options, offsets, sizes, addrs, files, starts, ends, firmware, protocol, out,
     )
 }

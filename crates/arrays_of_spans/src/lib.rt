@@ -10,9 +10,10 @@ ghost use Rattle.annotated.specs.Annotated.{annotated_outcome};
 ghost use Rattle.spans.specs.Spans.{offsets_of, sizes_of};
 ghost use Rattle.listing_of_spans.specs.Records.{record_spans};
 
+use bitvec::Image;
 use blocks::Blocks;
 use listing::FormatAnnotatedOptions;
-use outcome::Export;
+use outcome::{Export, Refusal};
 use spans::Span;
 
 // `hex_of_spans::get_blocks`.
@@ -24,29 +25,27 @@ pub fn get_blocks(
 ) -> Blocks
     ensures { Finds (blocks_found (offsets_of (take count spans)) (sizes_of (take count spans)) (length block_offsets.old) (length block_sizes.old)) result block_offsets.old block_offsets.new block_sizes.old block_sizes.new }
 {
-    let n = output::smaller(count, 4098);
+    let n = count.min(4098);
     hex_of_spans::get_blocks(&spans[..n], block_offsets, block_sizes)
 }
 
 // `hex_of_spans::format_intelhex`.
 pub fn format_intelhex(
-    image: &[u8],
-    bits: usize,
+    image: Image,
     spans: [Span; 4098],
     count: usize,
     address_unit: usize,
     out: &mut [u8],
 ) -> Export
-    ensures { Exports (hex_outcome image.now bits (offsets_of (take count spans)) (sizes_of (take count spans)) address_unit (length out.old)) result out.old out.new }
+    ensures { Exports (hex_outcome image.entry.bytes.now image.entry.len (offsets_of (take count spans)) (sizes_of (take count spans)) address_unit (length out.old)) result out.old out.new }
 {
-    let n = output::smaller(count, 4098);
-    hex_of_spans::format_intelhex(image, bits, &spans[..n], address_unit, out)
+    let n = count.min(4098);
+    hex_of_spans::format_intelhex(image, &spans[..n], address_unit, out)
 }
 
 // `listing_of_spans::format_annotated`.
 pub fn format_annotated<'a>(
-    image: &[u8],
-    bits: usize,
+    image: Image,
     spans: [Span; 4098],
     count: usize,
     firmware: &'a [u8],
@@ -54,8 +53,8 @@ pub fn format_annotated<'a>(
     options: FormatAnnotatedOptions,
     out: &mut [u8],
 ) -> Export
-    ensures { Exports (annotated_outcome image.now bits options (record_spans (take count spans)) firmware.now protocol.now (length out.old)) result out.old out.new }
+    ensures { Exports (annotated_outcome image.entry.bytes.now image.entry.len options (record_spans (take count spans)) firmware.now protocol.now (length out.old)) result out.old out.new }
 {
-    let n = output::smaller(count, 4098);
-    listing_of_spans::format_annotated(image, bits, &spans[..n], firmware, protocol, options, out)
+    let n = count.min(4098);
+    listing_of_spans::format_annotated(image, &spans[..n], firmware, protocol, options, out)
 }

@@ -10,7 +10,8 @@ ghost use Rattle.byte_list.specs.Bytes.{byte_in, byte_list};
 ghost use Rattle.byte_lines.specs.Items.{items_text};
 ghost use Rattle.byte_lines.specs.Start.{address_comment, line_start};
 
-use numbers::Letters;
+use bitvec::Image;
+use numbers::{Letters, Radix};
 
 // How a line of the list starts: with the newline alone, or with the newline and a comment that has
 // the address in so many digits.
@@ -39,7 +40,7 @@ pub fn put_comment(out: &mut [u8], at: usize, width: usize, k: usize) -> usize
     ensures { Writes (address_comment width k) out.old at out.new result }
 {
     let mut next = output::put_all(out, at, b"\t/* 0x");
-    next = numbers::put_padded(out, next, Letters::Lower, k as u64, 16, b'0', width);
+    next = numbers::put_padded(out, next, Letters::Lower, k as u64, Radix::HEX, b'0', width);
     output::put_all(out, next, b" */ ")
 }
 
@@ -84,21 +85,20 @@ fn put_between(out: &mut [u8], at: usize, separator: &[u8], start: LineStart, k:
 fn put_twos(
     out: &mut [u8],
     at: usize,
-    image: &[u8],
-    bits: usize,
+    image: Image,
     radix: usize,
     head: u8,
     head2: u8,
     first: usize,
     count: usize,
 ) -> usize
-    requires inside { ((first + count) * 8 ≤ bits) × (first + count ≤ length image.now) }
-    requires room { at + length (items_text radix (head ∷ head2 ∷ []) image.now bits first count) ≤ length out.old }
-    ensures { Writes (items_text radix (head ∷ head2 ∷ []) image.now bits first count) out.old at out.new result }
+    requires inside { ((first + count) * 8 ≤ image.len) × (first + count ≤ length image.bytes.now) }
+    requires room { at + length (items_text radix (head ∷ head2 ∷ []) image.bytes.now image.len first count) ≤ length out.old }
+    ensures { Writes (items_text radix (head ∷ head2 ∷ []) image.entry.bytes.now image.entry.len first count) out.old at out.new result }
 {
     let mut next = at;
     for j in 0..count {
-        let byte = image[first + j];
+        let byte = image.bytes[first + j];
         next = output::put(out, next, head);
         next = output::put(out, next, head2);
         next = put_byte_in(out, next, radix, byte);
@@ -110,20 +110,19 @@ fn put_twos(
 fn put_any(
     out: &mut [u8],
     at: usize,
-    image: &[u8],
-    bits: usize,
+    image: Image,
     radix: usize,
     separator: &[u8],
     first: usize,
     count: usize,
 ) -> usize
-    requires inside { ((first + count) * 8 ≤ bits) × (first + count ≤ length image.now) }
-    requires room { at + length (items_text radix separator.now image.now bits first count) ≤ length out.old }
-    ensures { Writes (items_text radix separator.now image.now bits first count) out.old at out.new result }
+    requires inside { ((first + count) * 8 ≤ image.len) × (first + count ≤ length image.bytes.now) }
+    requires room { at + length (items_text radix separator.now image.bytes.now image.len first count) ≤ length out.old }
+    ensures { Writes (items_text radix separator.now image.entry.bytes.now image.entry.len first count) out.old at out.new result }
 {
     let mut next = at;
     for j in 0..count {
-        let byte = image[first + j];
+        let byte = image.bytes[first + j];
         next = output::put_text(out, next, separator);
         next = put_byte_in(out, next, radix, byte);
     }
@@ -135,16 +134,15 @@ fn put_any(
 fn put_items(
     out: &mut [u8],
     at: usize,
-    image: &[u8],
-    bits: usize,
+    image: Image,
     radix: usize,
     separator: &[u8],
     first: usize,
     count: usize,
 ) -> usize
-    requires inside { 0 < count → ((first + count) * 8 ≤ bits) × (first + count ≤ length image.now) }
-    requires room { at + length (items_text radix separator.now image.now bits first count) ≤ length out.old }
-    ensures { Writes (items_text radix separator.now image.now bits first count) out.old at out.new result }
+    requires inside { 0 < count → ((first + count) * 8 ≤ image.len) × (first + count ≤ length image.bytes.now) }
+    requires room { at + length (items_text radix separator.now image.bytes.now image.len first count) ≤ length out.old }
+    ensures { Writes (items_text radix separator.now image.entry.bytes.now image.entry.len first count) out.old at out.new result }
 {
     if count == 0 {
         return at;
@@ -154,7 +152,6 @@ fn put_items(
             out,
             at,
             image,
-            bits,
             radix,
             separator[0],
             separator[1],
@@ -162,7 +159,7 @@ fn put_items(
             count,
         );
     }
-    put_any(out, at, image, bits, radix, separator, first, count)
+    put_any(out, at, image, radix, separator, first, count)
 }
 
 // How many of the first `whole` bytes stand behind byte `k` on its line.
@@ -173,7 +170,7 @@ fn line_rest(k: usize, whole: usize) -> usize
     if whole <= k {
         return 0;
     }
-    output::smaller(15 - k % 16, whole - (k + 1))
+    (15 - k % 16).min(whole - (k + 1))
 }
 
 // Stores the list of `count` bytes. In a turn one byte is written with what stands before it, and then
@@ -181,26 +178,25 @@ fn line_rest(k: usize, whole: usize) -> usize
 pub fn put_list(
     out: &mut [u8],
     at: usize,
-    image: &[u8],
-    bits: usize,
+    image: Image,
     radix: usize,
     separator: &[u8],
     start: LineStart,
     count: usize,
 ) -> usize
-    requires { (count < 2 ^ 32) × (count ≡ ceil_div bits 8) × (at + length (byte_list radix separator.now (line_start start) image.now bits) ≤ length out.old) }
-    ensures { Writes (byte_list radix separator.now (line_start start) image.now bits) out.old at out.new result }
+    requires { (count < 2 ^ 32) × (count ≡ ceil_div image.len 8) × (at + length (byte_list radix separator.now (line_start start) image.bytes.now image.len) ≤ length out.old) }
+    ensures { Writes (byte_list radix separator.now (line_start start) image.entry.bytes.now image.entry.len) out.old at out.new result }
 {
-    let whole = byte_list::whole_bytes(image, bits, count);
+    let whole = byte_list::whole_bytes(image, count);
     let mut next = at;
     let mut k = 0;
     while k < count {
-        let byte = byte_list::byte_of(image, bits, whole, k);
+        let byte = byte_list::byte_of(image, whole, k);
         next = put_between(out, next, separator, start, k);
         next = put_byte_in(out, next, radix, byte);
         let more = line_rest(k, whole);
         k += 1;
-        next = put_items(out, next, image, bits, radix, separator, k, more);
+        next = put_items(out, next, image, radix, separator, k, more);
         k += more;
     }
     next

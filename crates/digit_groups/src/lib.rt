@@ -7,7 +7,7 @@ ghost use Rattle.output.specs.Pieces.{joined, leading};
 ghost use Rattle.output.specs.Writes.{Writes};
 ghost use Rattle.digit_groups.specs.Groups.{string_at, group_at, groups_text, cut_text};
 
-use bitvec::BitOffset;
+use bitvec::{BitOffset, Image};
 
 // Places for the digits of a block of groups.
 fn no_digits() -> [u8; 1024]
@@ -62,7 +62,7 @@ fn put_cut(
     while j < count {
         next = put_string(out, next, every, between, between2, k + j, left);
         next = text_parts::put_part(out, next, s, j * size, size);
-        let more = output::smaller(left, count - 1 - j);
+        let more = left.min(count - 1 - j);
         next = text_parts::put_headed(out, next, s, size, j + 1, between, more);
         left = every - 1;
         j += 1 + more;
@@ -74,8 +74,7 @@ fn put_cut(
 fn put_block(
     out: &mut [u8],
     at: usize,
-    bytes: &[u8],
-    len: usize,
+    image: Image,
     width: usize,
     size: usize,
     every: usize,
@@ -85,12 +84,12 @@ fn put_block(
     count: usize,
 ) -> usize
     requires small { (width ≤ 5) × (0 < size) × (size ≤ 1024) × (0 < every) × (count * size ≤ 1024) × (k + count < 2 ^ 64) × ((k + count) * (size * width) < 2 ^ 64) }
-    requires room { at + length (groups_text every between.now between2.now bytes.now len width size k count) ≤ length out.old }
-    ensures { Writes (groups_text every between.now between2.now bytes.now len width size k count) out.old at out.new result }
+    requires room { at + length (groups_text every between.now between2.now image.bytes.now image.len width size k count) ≤ length out.old }
+    ensures { Writes (groups_text every between.now between2.now image.entry.bytes.now image.entry.len width size k count) out.old at out.new result }
 {
     let mut digits = no_digits();
     let from = BitOffset(k * (size * width));
-    digits::put_run(&mut digits, 0, bytes, len, width, from, count * size);
+    digits::put_run(&mut digits, 0, image, width, from, count * size);
     put_cut(out, at, &digits, size, every, between, between2, k, count)
 }
 
@@ -98,8 +97,7 @@ fn put_block(
 fn put_blocks(
     out: &mut [u8],
     at: usize,
-    bytes: &[u8],
-    len: usize,
+    image: Image,
     width: usize,
     size: usize,
     every: usize,
@@ -108,16 +106,16 @@ fn put_blocks(
     count: usize,
 ) -> usize
     requires small { (width ≤ 5) × (0 < size) × (size ≤ 1024) × (0 < count → 0 < every) × (count * (size * width) < 2 ^ 64) }
-    requires room { at + length (joined (string_at every between.now between2.now) (group_at bytes.now len width size) count) ≤ length out.old }
-    ensures { Writes (joined (string_at every between.now between2.now) (group_at bytes.now len width size) count) out.old at out.new result }
+    requires room { at + length (joined (string_at every between.now between2.now) (group_at image.bytes.now image.len width size) count) ≤ length out.old }
+    ensures { Writes (joined (string_at every between.now between2.now) (group_at image.entry.bytes.now image.entry.len width size) count) out.old at out.new result }
 {
     let most = digit_lines::block_lines(size);
     let mut next = at;
     let mut k = 0;
     while k < count {
-        let groups = output::smaller(most, count - k);
+        let groups = most.min(count - k);
         next = put_block(
-            out, next, bytes, len, width, size, every, between, between2, k, groups,
+            out, next, image, width, size, every, between, between2, k, groups,
         );
         k += groups;
     }
@@ -130,8 +128,7 @@ fn put_blocks(
 pub fn put_groups(
     out: &mut [u8],
     at: usize,
-    bytes: &[u8],
-    len: usize,
+    image: Image,
     width: usize,
     size: usize,
     every: usize,
@@ -140,15 +137,13 @@ pub fn put_groups(
     count: usize,
 ) -> usize
     requires small { (width ≤ 5) × (0 < size) × (size ≤ 1024) × (0 < count → 0 < every) × (count * (size * width) < 2 ^ 64) }
-    requires room { at + length (joined (string_at every between.now between2.now) (group_at bytes.now len width size) count) ≤ length out.old }
-    ensures { Writes (joined (string_at every between.now between2.now) (group_at bytes.now len width size) count) out.old at out.new result }
+    requires room { at + length (joined (string_at every between.now between2.now) (group_at image.bytes.now image.len width size) count) ≤ length out.old }
+    ensures { Writes (joined (string_at every between.now between2.now) (group_at image.entry.bytes.now image.entry.len width size) count) out.old at out.new result }
 {
     if every == 1 {
         return put_blocks(
-            out, at, bytes, len, width, size, count, between2, between2, count,
+            out, at, image, width, size, count, between2, between2, count,
         );
     }
-    put_blocks(
-        out, at, bytes, len, width, size, every, between, between2, count,
-    )
+    put_blocks(out, at, image, width, size, every, between, between2, count)
 }

@@ -5,7 +5,7 @@ ghost use Rattle.std.specs.Prelude.{◌≡◌, ◌+◌, ◌*◌, ◌≤◌, ◌<
 ghost use Rattle.output.specs.Writes.{Writes};
 ghost use Rattle.digit_lines.specs.Lines.{lines_text, block_lines};
 
-use bitvec::BitOffset;
+use bitvec::{BitOffset, Image};
 
 // Places for the digits of a block of lines.
 fn no_digits() -> [u8; 1024]
@@ -18,8 +18,7 @@ fn no_digits() -> [u8; 1024]
 fn put_block(
     out: &mut [u8],
     at: usize,
-    bytes: &[u8],
-    len: usize,
+    image: Image,
     width: usize,
     from: BitOffset,
     size: usize,
@@ -28,10 +27,10 @@ fn put_block(
 ) -> usize
     requires small { (width ≤ 5) × (lines * size ≤ 1024) × (from.0 + lines * size * width < 2 ^ 64) }
     requires room { at + lines * (size + 1) ≤ length out.old }
-    ensures { Writes (lines_text bytes.now len width from.0 size tail lines) out.old at out.new result }
+    ensures { Writes (lines_text image.entry.bytes.now image.entry.len width from.0 size tail lines) out.old at out.new result }
 {
     let mut digits = no_digits();
-    digits::put_run(&mut digits, 0, bytes, len, width, from, lines * size);
+    digits::put_run(&mut digits, 0, image, width, from, lines * size);
     text_parts::put_parts(out, at, &digits, size, tail, lines)
 }
 
@@ -52,8 +51,7 @@ pub fn block_lines(size: usize) -> usize
 pub fn put_lines(
     out: &mut [u8],
     at: usize,
-    bytes: &[u8],
-    len: usize,
+    image: Image,
     width: usize,
     from: BitOffset,
     size: usize,
@@ -62,19 +60,18 @@ pub fn put_lines(
 ) -> usize
     requires small { (width ≤ 5) × (0 < size) × (size ≤ 1024) × (from.0 + count * (size * width) < 2 ^ 64) }
     requires room { at + count * (size + 1) ≤ length out.old }
-    ensures { Writes (lines_text bytes.now len width from.0 size tail count) out.old at out.new result }
+    ensures { Writes (lines_text image.entry.bytes.now image.entry.len width from.0 size tail count) out.old at out.new result }
 {
     let most = block_lines(size);
     let mut offset = from.0;
     let mut next = at;
     let mut k = 0;
     while k < count {
-        let lines = output::smaller(most, count - k);
+        let lines = most.min(count - k);
         next = put_block(
             out,
             next,
-            bytes,
-            len,
+            image,
             width,
             BitOffset(offset),
             size,

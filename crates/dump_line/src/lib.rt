@@ -10,20 +10,20 @@ ghost use Rattle.rows.specs.declared.ByteDigits.TheVariants.{Hex};
 ghost use Rattle.rows.specs.Rows.{rows_text};
 ghost use Rattle.dump_line.specs.Line.{dump_digit, printed, dump_char, dump_byte, digit_column, char_column, dump_line};
 
-use bitvec::BitOffset;
-use numbers::Letters;
+use bitvec::{BitOffset, Image};
+use numbers::{Letters, Radix};
 use rows::ByteDigits;
 
 // The character of a digit of `width` bits, a point where it starts past the end.
-fn dump_digit(image: &[u8], bits: usize, width: usize, from: BitOffset) -> u8
+fn dump_digit(image: Image, width: usize, from: BitOffset) -> u8
     requires { (width ≤ 4) × (from.0 + width < 2 ^ 64) }
-    ensures { result ≡ dump_digit image.now bits width from.0 }
+    ensures { result ≡ dump_digit image.entry.bytes.now image.entry.len width from.0 }
 {
     let first = from.0;
-    if bits <= first {
+    if image.len <= first {
         return b'.';
     }
-    let digit = bitvec::read_bits(image, bits, BitOffset(first), width);
+    let digit = image.read_bits(BitOffset(first), width);
     numbers::digit_char(Letters::Lower, digit)
 }
 
@@ -49,35 +49,28 @@ fn printed(byte: u8) -> u8
 }
 
 // The character of a byte of the image, a point where it starts past the end.
-fn dump_char(image: &[u8], bits: usize, from: BitOffset) -> u8
+fn dump_char(image: Image, from: BitOffset) -> u8
     requires { from.0 + 8 < 2 ^ 64 }
-    ensures { result ≡ dump_char image.now bits from.0 }
+    ensures { result ≡ dump_char image.entry.bytes.now image.entry.len from.0 }
 {
     let bit = from.0;
-    if bits <= bit {
+    if image.len <= bit {
         return b'.';
     }
-    printed(bitvec::read_byte(image, bits, BitOffset(bit)))
+    printed(image.read_byte(BitOffset(bit)))
 }
 
 // Stores a byte in digits of `width` bits, and a space.
-fn put_dump_byte(
-    out: &mut [u8],
-    at: usize,
-    image: &[u8],
-    bits: usize,
-    width: usize,
-    from: BitOffset,
-) -> usize
+fn put_dump_byte(out: &mut [u8], at: usize, image: Image, width: usize, from: BitOffset) -> usize
     requires { (0 < width) × (width ≤ 4) × (from.0 + 8 < 2 ^ 64) × (at + (8 / width + 1) ≤ length out.old) }
-    ensures { Writes (dump_byte image.now bits width from.0) out.old at out.new result }
+    ensures { Writes (dump_byte image.entry.bytes.now image.entry.len width from.0) out.old at out.new result }
 {
     let count = 8 / width;
     let mut offset = from.0;
     let mut next = at;
     let mut j = 0;
     while j < count {
-        let c = dump_digit(image, bits, width, BitOffset(offset));
+        let c = dump_digit(image, width, BitOffset(offset));
         next = output::put(out, next, c);
         offset += width;
         j += 1;
@@ -89,41 +82,33 @@ fn put_dump_byte(
 fn put_digit_column(
     out: &mut [u8],
     at: usize,
-    image: &[u8],
-    bits: usize,
+    image: Image,
     width: usize,
     first: usize,
     count: usize,
 ) -> usize
-    requires { (0 < width) × (width ≤ 4) × (first < 2 ^ 32) × (count ≤ 64) × (at + length (digit_column image.now bits width first count) ≤ length out.old) }
-    ensures { Writes (digit_column image.now bits width first count) out.old at out.new result }
+    requires { (0 < width) × (width ≤ 4) × (first < 2 ^ 32) × (count ≤ 64) × (at + length (digit_column image.bytes.now image.len width first count) ≤ length out.old) }
+    ensures { Writes (digit_column image.entry.bytes.now image.entry.len width first count) out.old at out.new result }
 {
     let mut next = at;
     let mut j = 0;
     while j < count {
         next = output::put_between(out, next, 4, j, b' ');
-        next = put_dump_byte(out, next, image, bits, width, BitOffset((first + j) * 8));
+        next = put_dump_byte(out, next, image, width, BitOffset((first + j) * 8));
         j += 1;
     }
     next
 }
 
 // Stores the `count` bytes of a line from byte `first` on, as characters.
-fn put_char_column(
-    out: &mut [u8],
-    at: usize,
-    image: &[u8],
-    bits: usize,
-    first: usize,
-    count: usize,
-) -> usize
+fn put_char_column(out: &mut [u8], at: usize, image: Image, first: usize, count: usize) -> usize
     requires { (first < 2 ^ 32) × (count ≤ 64) × (at + count ≤ length out.old) }
-    ensures { Writes (char_column image.now bits first count) out.old at out.new result }
+    ensures { Writes (char_column image.entry.bytes.now image.entry.len first count) out.old at out.new result }
 {
     let mut next = at;
     let mut j = 0;
     while j < count {
-        let c = dump_char(image, bits, BitOffset((first + j) * 8));
+        let c = dump_char(image, BitOffset((first + j) * 8));
         next = output::put(out, next, c);
         j += 1;
     }
@@ -132,176 +117,140 @@ fn put_char_column(
 
 // Stores a group of up to four whole bytes of the image in hexadecimal, with a space behind each: four
 // are the most frequent ones.
-fn put_group(
-    out: &mut [u8],
-    at: usize,
-    image: &[u8],
-    bits: usize,
-    first: usize,
-    count: usize,
-) -> usize
-    requires inside { ((first + count) * 8 ≤ bits) × (first + count ≤ length image.now) }
+fn put_group(out: &mut [u8], at: usize, image: Image, first: usize, count: usize) -> usize
+    requires inside { ((first + count) * 8 ≤ image.len) × (first + count ≤ length image.bytes.now) }
     requires room { at + count * 3 ≤ length out.old }
-    ensures { Writes (rows_text Hex image.now bits first 1 (ascii " ") count) out.old at out.new result }
+    ensures { Writes (rows_text Hex image.entry.bytes.now image.entry.len first 1 (ascii " ") count) out.old at out.new result }
 {
     if count == 4 {
-        return rows::put_by_twos(out, at, image, bits, first, b' ', 2);
+        return rows::put_by_twos(out, at, image, first, b' ', 2);
     }
-    rows::put_rows(out, at, ByteDigits::Hex, image, bits, first, 1, b" ", count)
+    rows::put_rows(out, at, ByteDigits::Hex, image, first, 1, b" ", count)
 }
 
 // Stores the `count` bytes of a line from byte `first` on, which are whole bytes of the image, in
 // hexadecimal: groups of four with a space between them.
-fn put_groups(
-    out: &mut [u8],
-    at: usize,
-    image: &[u8],
-    bits: usize,
-    first: usize,
-    count: usize,
-) -> usize
-    requires inside { (0 < count) × ((first + count) * 8 ≤ bits) × (first + count ≤ length image.now) }
-    requires room { at + length (digit_column image.now bits 4 first count) ≤ length out.old }
-    ensures { Writes (digit_column image.now bits 4 first count) out.old at out.new result }
+fn put_groups(out: &mut [u8], at: usize, image: Image, first: usize, count: usize) -> usize
+    requires inside { (0 < count) × ((first + count) * 8 ≤ image.len) × (first + count ≤ length image.bytes.now) }
+    requires room { at + length (digit_column image.bytes.now image.len 4 first count) ≤ length out.old }
+    ensures { Writes (digit_column image.entry.bytes.now image.entry.len 4 first count) out.old at out.new result }
 {
     let mut next = at;
     let mut j = 0;
     while 4 < count - j {
-        next = put_group(out, next, image, bits, first + j, 4);
+        next = put_group(out, next, image, first + j, 4);
         next = output::put(out, next, b' ');
         j += 4;
     }
-    put_group(out, next, image, bits, first + j, count - j)
+    put_group(out, next, image, first + j, count - j)
 }
 
 // Stores the `count` bytes of a line from byte `first` on, which are whole bytes of the image, as
 // characters.
-fn put_whole_chars(
-    out: &mut [u8],
-    at: usize,
-    image: &[u8],
-    bits: usize,
-    first: usize,
-    count: usize,
-) -> usize
-    requires inside { ((first + count) * 8 ≤ bits) × (first + count ≤ length image.now) }
+fn put_whole_chars(out: &mut [u8], at: usize, image: Image, first: usize, count: usize) -> usize
+    requires inside { ((first + count) * 8 ≤ image.len) × (first + count ≤ length image.bytes.now) }
     requires room { at + count ≤ length out.old }
-    ensures { Writes (char_column image.now bits first count) out.old at out.new result }
+    ensures { Writes (char_column image.entry.bytes.now image.entry.len first count) out.old at out.new result }
 {
     let mut next = at;
     for j in 0..count {
-        let byte = image[first + j];
+        let byte = image.bytes[first + j];
         next = output::put(out, next, printed(byte));
     }
     next
 }
 
 // Stores a whole byte of the image as binary digits, and a space.
-fn put_binary_byte(out: &mut [u8], at: usize, image: &[u8], bits: usize, first: usize) -> usize
-    requires inside { (first * 8 + 8 ≤ bits) × (first < length image.now) }
+fn put_binary_byte(out: &mut [u8], at: usize, image: Image, first: usize) -> usize
+    requires inside { (first * 8 + 8 ≤ image.len) × (first < length image.bytes.now) }
     requires room { at + 9 ≤ length out.old }
-    ensures { Writes (dump_byte image.now bits 1 (first * 8)) out.old at out.new result }
+    ensures { Writes (dump_byte image.entry.bytes.now image.entry.len 1 (first * 8)) out.old at out.new result }
 {
-    let byte = image[first];
+    let byte = image.bytes[first];
     let next = eight_chars::put_bits(out, at, byte);
     output::put(out, next, b' ')
 }
 
 // Stores the `count` bytes of a line from byte `first` on, which are whole bytes of the image, as binary
 // digits.
-fn put_binary_column(
-    out: &mut [u8],
-    at: usize,
-    image: &[u8],
-    bits: usize,
-    first: usize,
-    count: usize,
-) -> usize
-    requires inside { ((first + count) * 8 ≤ bits) × (first + count ≤ length image.now) }
-    requires room { at + length (digit_column image.now bits 1 first count) ≤ length out.old }
-    ensures { Writes (digit_column image.now bits 1 first count) out.old at out.new result }
+fn put_binary_column(out: &mut [u8], at: usize, image: Image, first: usize, count: usize) -> usize
+    requires inside { ((first + count) * 8 ≤ image.len) × (first + count ≤ length image.bytes.now) }
+    requires room { at + length (digit_column image.bytes.now image.len 1 first count) ≤ length out.old }
+    ensures { Writes (digit_column image.entry.bytes.now image.entry.len 1 first count) out.old at out.new result }
 {
     let mut next = at;
     let mut j = 0;
     while j < count {
         next = output::put_between(out, next, 4, j, b' ');
-        next = put_binary_byte(out, next, image, bits, first + j);
+        next = put_binary_byte(out, next, image, first + j);
         j += 1;
     }
     next
 }
 
 // The character of a whole byte of the image.
-fn whole_char(image: &[u8], bits: usize, first: usize) -> u8
-    requires { (first * 8 + 8 ≤ bits) × (first < length image.now) }
-    ensures { result ≡ dump_char image.now bits (first * 8) }
+fn whole_char(image: Image, first: usize) -> u8
+    requires { (first * 8 + 8 ≤ image.len) × (first < length image.bytes.now) }
+    ensures { result ≡ dump_char image.entry.bytes.now image.entry.len (first * 8) }
 {
-    printed(image[first])
+    printed(image.bytes[first])
 }
 
 // Stores the eight bytes of a line from byte `first` on, which are whole bytes of the image, as
 // characters. All are found before one is stored, so that the compiler can do them at once.
-fn put_eight_chars(out: &mut [u8], at: usize, image: &[u8], bits: usize, first: usize) -> usize
-    requires inside { ((first + 8) * 8 ≤ bits) × (first + 8 ≤ length image.now) }
+fn put_eight_chars(out: &mut [u8], at: usize, image: Image, first: usize) -> usize
+    requires inside { ((first + 8) * 8 ≤ image.len) × (first + 8 ≤ length image.bytes.now) }
     requires room { at + 8 ≤ length out.old }
-    ensures { Writes (char_column image.now bits first 8) out.old at out.new result }
+    ensures { Writes (char_column image.entry.bytes.now image.entry.len first 8) out.old at out.new result }
 {
-    let c0 = whole_char(image, bits, first);
-    let c1 = whole_char(image, bits, first + 1);
-    let c2 = whole_char(image, bits, first + 2);
-    let c3 = whole_char(image, bits, first + 3);
-    let c4 = whole_char(image, bits, first + 4);
-    let c5 = whole_char(image, bits, first + 5);
-    let c6 = whole_char(image, bits, first + 6);
-    let c7 = whole_char(image, bits, first + 7);
-    eight_chars::put_eight(out, at, c0, c1, c2, c3, c4, c5, c6, c7)
+    let c0 = whole_char(image, first);
+    let c1 = whole_char(image, first + 1);
+    let c2 = whole_char(image, first + 2);
+    let c3 = whole_char(image, first + 3);
+    let c4 = whole_char(image, first + 4);
+    let c5 = whole_char(image, first + 5);
+    let c6 = whole_char(image, first + 6);
+    let c7 = whole_char(image, first + 7);
+    eight_chars::put_eight(out, at, [c0, c1, c2, c3, c4, c5, c6, c7])
 }
 
 // Stores the `count` bytes of a line from byte `first` on, in digits of `width` bits.
 fn put_digits(
     out: &mut [u8],
     at: usize,
-    image: &[u8],
-    bits: usize,
+    image: Image,
     width: usize,
     first: usize,
     count: usize,
 ) -> usize
-    requires size { (0 < width) × (width ≤ 4) × (first < 2 ^ 32) × (0 < count) × (count ≤ 64) × (bits ≤ 8 * length image.now) }
-    requires room { at + length (digit_column image.now bits width first count) ≤ length out.old }
-    ensures { Writes (digit_column image.now bits width first count) out.old at out.new result }
+    requires size { (0 < width) × (width ≤ 4) × (first < 2 ^ 32) × (0 < count) × (count ≤ 64) × (image.len ≤ 8 * length image.bytes.now) }
+    requires room { at + length (digit_column image.bytes.now image.len width first count) ≤ length out.old }
+    ensures { Writes (digit_column image.entry.bytes.now image.entry.len width first count) out.old at out.new result }
 {
-    if (first + count) * 8 <= bits {
+    if (first + count) * 8 <= image.len {
         if width == 1 {
-            return put_binary_column(out, at, image, bits, first, count);
+            return put_binary_column(out, at, image, first, count);
         }
         if width == 4 {
-            return put_groups(out, at, image, bits, first, count);
+            return put_groups(out, at, image, first, count);
         }
     }
-    put_digit_column(out, at, image, bits, width, first, count)
+    put_digit_column(out, at, image, width, first, count)
 }
 
 // Stores the `count` bytes of a line from byte `first` on, as characters. The eight bytes of a line of a
 // bindump are too few for a loop to do many at once.
-fn put_chars(
-    out: &mut [u8],
-    at: usize,
-    image: &[u8],
-    bits: usize,
-    first: usize,
-    count: usize,
-) -> usize
-    requires { (first < 2 ^ 32) × (count ≤ 64) × (bits ≤ 8 * length image.now) × (at + count ≤ length out.old) }
-    ensures { Writes (char_column image.now bits first count) out.old at out.new result }
+fn put_chars(out: &mut [u8], at: usize, image: Image, first: usize, count: usize) -> usize
+    requires { (first < 2 ^ 32) × (count ≤ 64) × (image.len ≤ 8 * length image.bytes.now) × (at + count ≤ length out.old) }
+    ensures { Writes (char_column image.entry.bytes.now image.entry.len first count) out.old at out.new result }
 {
-    if (first + count) * 8 <= bits {
+    if (first + count) * 8 <= image.len {
         if count == 8 {
-            return put_eight_chars(out, at, image, bits, first);
+            return put_eight_chars(out, at, image, first);
         }
-        return put_whole_chars(out, at, image, bits, first, count);
+        return put_whole_chars(out, at, image, first, count);
     }
-    put_char_column(out, at, image, bits, first, count)
+    put_char_column(out, at, image, first, count)
 }
 
 // The length of a line of `count` bytes whose address is filled to `address` digits.
@@ -318,22 +267,29 @@ pub fn line_length(width: usize, count: usize, address: usize) -> usize
 pub fn put_line(
     out: &mut [u8],
     at: usize,
-    image: &[u8],
-    bits: usize,
+    image: Image,
     width: usize,
     count: usize,
     address: usize,
     first: usize,
 ) -> usize
-    requires size { (0 < width) × (width ≤ 4) × (first < 2 ^ 32) × (0 < count) × (count ≤ 64) × (bits ≤ 8 * length image.now) × (digit_count 16 first ≤ address) }
-    requires room { at + length (dump_line image.now bits width count address first) ≤ length out.old }
-    ensures { Writes (dump_line image.now bits width count address first) out.old at out.new result }
+    requires size { (0 < width) × (width ≤ 4) × (first < 2 ^ 32) × (0 < count) × (count ≤ 64) × (image.len ≤ 8 * length image.bytes.now) × (digit_count 16 first ≤ address) }
+    requires room { at + length (dump_line image.bytes.now image.len width count address first) ≤ length out.old }
+    ensures { Writes (dump_line image.entry.bytes.now image.entry.len width count address first) out.old at out.new result }
 {
     let mut next = output::put(out, at, b' ');
-    next = numbers::put_column(out, next, Letters::Lower, first as u64, 16, b'0', address);
+    next = numbers::put_column(
+        out,
+        next,
+        Letters::Lower,
+        first as u64,
+        Radix::HEX,
+        b'0',
+        address,
+    );
     next = output::put_all(out, next, b" | ");
-    next = put_digits(out, next, image, bits, width, first, count);
+    next = put_digits(out, next, image, width, first, count);
     next = output::put_all(out, next, b"| ");
-    next = put_chars(out, next, image, bits, first, count);
+    next = put_chars(out, next, image, first, count);
     output::put_all(out, next, b" |\n")
 }

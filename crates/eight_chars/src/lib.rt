@@ -8,29 +8,11 @@ ghost use Rattle.numbers.specs.Digits.{digits_of};
 ghost use Rattle.eight_chars.specs.Word.{low_bytes};
 
 // Stores eight characters.
-pub fn put_eight(
-    out: &mut [u8],
-    at: usize,
-    c0: u8,
-    c1: u8,
-    c2: u8,
-    c3: u8,
-    c4: u8,
-    c5: u8,
-    c6: u8,
-    c7: u8,
-) -> usize
+pub fn put_eight(out: &mut [u8], at: usize, chars: [u8; 8]) -> usize
     requires { at + 8 ≤ length out.old }
-    ensures { Writes (c0 ∷ c1 ∷ c2 ∷ c3 ∷ c4 ∷ c5 ∷ c6 ∷ c7 ∷ []) out.old at out.new result }
+    ensures { Writes chars out.old at out.new result }
 {
-    let mut next = output::put(out, at, c0);
-    next = output::put(out, next, c1);
-    next = output::put(out, next, c2);
-    next = output::put(out, next, c3);
-    next = output::put(out, next, c4);
-    next = output::put(out, next, c5);
-    next = output::put(out, next, c6);
-    output::put(out, next, c7)
+    output::put_all(out, at, &chars)
 }
 
 // The bits of a byte as binary digits, one in each byte of a word, the first digit lowest: seven by a
@@ -49,18 +31,7 @@ pub fn put_word(out: &mut [u8], at: usize, word: u64) -> usize
     requires { at + 8 ≤ length out.old }
     ensures { Writes (low_bytes word) out.old at out.new result }
 {
-    put_eight(
-        out,
-        at,
-        (word % 256) as u8,
-        ((word >> 8) % 256) as u8,
-        ((word >> 16) % 256) as u8,
-        ((word >> 24) % 256) as u8,
-        ((word >> 32) % 256) as u8,
-        ((word >> 40) % 256) as u8,
-        ((word >> 48) % 256) as u8,
-        ((word >> 56) % 256) as u8,
-    )
+    put_eight(out, at, word.to_le_bytes())
 }
 
 // Stores a byte as eight binary digits.

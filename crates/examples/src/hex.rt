@@ -2,6 +2,7 @@
 ghost use Rattle.std.specs.Prelude.{◌≤◌, length, IfOk};
 
 use crate::tell::{OLD, gave, tell};
+use bitvec::Image;
 use intelhex::format_intelhex;
 use ordering::ABSENT;
 use std::io;
@@ -10,8 +11,7 @@ use std::io;
 fn writes(
     rt: &impl Print,
     name: &str,
-    image: &[u8],
-    bits: usize,
+    image: Image,
     offsets: &[u32],
     sizes: &[u32],
     unit: usize,
@@ -21,7 +21,7 @@ fn writes(
     ensures { IfOk result (λ n. n ≤ 1) }
 {
     let mut out = [OLD; 256];
-    let answer = format_intelhex(image, bits, offsets, sizes, unit, &mut out);
+    let answer = format_intelhex(image, offsets, sizes, unit, &mut out);
     tell(rt, name, gave(answer, &out, 0, text.len(), text))
 }
 
@@ -29,8 +29,7 @@ fn writes(
 fn refuses(
     rt: &impl Print,
     name: &str,
-    image: &[u8],
-    bits: usize,
+    image: Image,
     offsets: &[u32],
     sizes: &[u32],
     unit: usize,
@@ -40,7 +39,7 @@ fn refuses(
     ensures { IfOk result (λ n. n ≤ 1) }
 {
     let mut out = [OLD; 256];
-    let answer = format_intelhex(image, bits, offsets, sizes, unit, &mut out);
+    let answer = format_intelhex(image, offsets, sizes, unit, &mut out);
     tell(rt, name, gave(answer, &out, number, value, b""))
 }
 

@@ -6,7 +6,7 @@ use crate::listings::{Row, ack, list_two, nop, options, part, sixteen};
 use crate::tell::{OLD, gave, tell};
 use listing::FormatAnnotatedOptions;
 use ordering::ABSENT;
-use outcome::Export;
+use outcome::{Export, Refusal};
 use std::io;
 
 // The start that says that a span has no location.

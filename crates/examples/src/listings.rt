@@ -5,7 +5,7 @@ ghost use Rattle.std.specs.Prelude.{◌≤◌, length, IfOk};
 use crate::tell::{OLD, gave, tell};
 use listing::FormatAnnotatedOptions;
 use ordering::ABSENT;
-use outcome::Export;
+use outcome::{Export, Refusal};
 use std::io;
 
 // A span: its bits, its address, its file, and its start and end there.

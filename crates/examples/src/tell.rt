@@ -1,7 +1,7 @@
 // What an example expects, and whether it came.
 ghost use Rattle.std.specs.Prelude.{◌≤◌, length, IfOk};
 
-use outcome::Export;
+use outcome::{Export, Refusal};
 use std::io;
 
 // What stands in the output buffer before a call.

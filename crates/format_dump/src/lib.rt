@@ -8,7 +8,8 @@ ghost use Rattle.outcome.specs.Outcome.{Exports};
 ghost use Rattle.numbers.specs.Digits.{digit_count};
 ghost use Rattle.format_dump.specs.Dump.{in_range, dump_lines, dump_text, dump_outcome, bindump, hexdump};
 
-use outcome::Export;
+use bitvec::Image;
+use outcome::{Export, Refusal};
 
 // What a dump looks like: the bits of a digit, those of a byte, and the bytes of a line.
 #[derive(Clone, Copy)]
@@ -63,24 +64,23 @@ fn dump_lines(bits: usize, count: usize) -> usize
 
 // Stores the dump, of `lines` lines.
 fn write_dump(
-    image: &[u8],
-    bits: usize,
+    image: Image,
     width: usize,
     count: usize,
     lines: usize,
     address: usize,
     out: &mut [u8],
 ) -> usize
-    requires size { (0 < width) × (width ≤ 4) × (0 < count) × (count ≤ 64) × (bits ≤ 16777216) × (bits ≤ 8 * length image.now) }
-    requires lines { (lines ≡ dump_lines bits count) × (address ≡ digit_count 16 ((lines - 1) * count)) }
-    requires room { length (dump_text image.now bits width count) ≤ length out.old }
-    ensures { Writes (dump_text image.now bits width count) out.old 0 out.new result }
+    requires size { (0 < width) × (width ≤ 4) × (0 < count) × (count ≤ 64) × (image.len ≤ 16777216) × (image.len ≤ 8 * length image.bytes.now) }
+    requires lines { (lines ≡ dump_lines image.len count) × (address ≡ digit_count 16 ((lines - 1) * count)) }
+    requires room { length (dump_text image.bytes.now image.len width count) ≤ length out.old }
+    ensures { Writes (dump_text image.entry.bytes.now image.entry.len width count) out.old 0 out.new result }
 {
     let mut first = 0;
     let mut next = 0;
     let mut k = 0;
     while k < lines {
-        next = dump_line::put_line(out, next, image, bits, width, count, address, first);
+        next = dump_line::put_line(out, next, image, width, count, address, first);
         first += count;
         k += 1;
     }
@@ -89,36 +89,36 @@ fn write_dump(
 
 // The dump with any options.
 #[tactic(auto, using(bitvec::proofs::Size::size_good, crate::proofs::Range::in_range_lem, crate::proofs::Lengths::lines_few), unfolding(crate::specs::Dump::dump_outcome))]
-pub fn format_dump(image: &[u8], bits: usize, options: DumpOptions, out: &mut [u8]) -> Export
-    ensures { Exports (dump_outcome image.now bits options (length out.old)) result out.old out.new }
+pub fn format_dump(image: Image, options: DumpOptions, out: &mut [u8]) -> Export
+    ensures { Exports (dump_outcome image.entry.bytes.now image.entry.len options (length out.old)) result out.old out.new }
 {
-    if bitvec::bad_size(image, bits) {
-        return Export::ImageSize;
+    if image.bad_size() {
+        return Err(Refusal::ImageSize);
     }
     if !DumpOptions::in_range(options) {
-        return Export::OptionRange;
+        return Err(Refusal::OptionRange);
     }
     let width = options.digit_bits;
     let count = options.bytes_per_line;
-    let lines = dump_lines(bits, count);
+    let lines = dump_lines(image.len, count);
     let address = numbers::digit_count(((lines - 1) * count) as u64, 16);
     let needed = lines * dump_line::line_length(width, count, address);
     if out.len() < needed {
-        return Export::NoRoom(needed);
+        return Err(Refusal::NoRoom(needed));
     }
-    Export::Text(write_dump(image, bits, width, count, lines, address, out))
+    Ok(write_dump(image, width, count, lines, address, out))
 }
 
 // One digit for each bit, 8 bytes a line.
-pub fn format_bindump(image: &[u8], bits: usize, out: &mut [u8]) -> Export
-    ensures { Exports (dump_outcome image.now bits bindump (length out.old)) result out.old out.new }
+pub fn format_bindump(image: Image, out: &mut [u8]) -> Export
+    ensures { Exports (dump_outcome image.entry.bytes.now image.entry.len bindump (length out.old)) result out.old out.new }
 {
-    format_dump(image, bits, DumpOptions::BINDUMP, out)
+    format_dump(image, DumpOptions::BINDUMP, out)
 }
 
 // Hexadecimal digits, 16 bytes a line.
-pub fn format_hexdump(image: &[u8], bits: usize, out: &mut [u8]) -> Export
-    ensures { Exports (dump_outcome image.now bits hexdump (length out.old)) result out.old out.new }
+pub fn format_hexdump(image: Image, out: &mut [u8]) -> Export
+    ensures { Exports (dump_outcome image.entry.bytes.now image.entry.len hexdump (length out.old)) result out.old out.new }
 {
-    format_dump(image, bits, DumpOptions::HEXDUMP, out)
+    format_dump(image, DumpOptions::HEXDUMP, out)
 }

@@ -12,8 +12,8 @@ ghost use Rattle.bases.specs.Base.{base_bits};
 ghost use Rattle.format_list.specs.List.{group_bits, group_text, between_groups, list_text, bad_list, list_outcome};
 ghost use Rattle.format_list.specs.Bytes.{alike, whole_bytes, group_bytes, group_kind};
 
-use bitvec::BitOffset;
-use outcome::Export;
+use bitvec::{BitOffset, Image};
+use outcome::{Export, Refusal};
 use rows::ByteDigits;
 
 // The options of a list but its strings, which are lent beside it.
@@ -111,8 +111,7 @@ fn segment(options: FormatListOptions, between2: &[u8], count: usize) -> usize
 fn put_alike(
     out: &mut [u8],
     at: usize,
-    image: &[u8],
-    bits: usize,
+    image: Image,
     options: FormatListOptions,
     kind: ByteDigits,
     wide: usize,
@@ -121,19 +120,18 @@ fn put_alike(
     count: usize,
 ) -> usize
     requires kind { (base_bits options.base ≡ digit_bits kind) × (options.digits_per_group ≡ wide * digits_per_byte kind) }
-    requires inside { (0 < count) × ((k + (count - 1)) * (wide * 8) ≤ bits) × (bits ≤ 8 * length image.now) × (bits ≤ 16777216) × (0 < wide) × (wide ≤ 64) }
-    requires room { at + length (alike options image.now bits between.now k (count - 1)) ≤ length out.old }
-    ensures { Writes (alike options image.now bits between.now k (count - 1)) out.old at out.new result }
+    requires inside { (0 < count) × ((k + (count - 1)) * (wide * 8) ≤ image.len) × (image.len ≤ 8 * length image.bytes.now) × (image.len ≤ 16777216) × (0 < wide) × (wide ≤ 64) }
+    requires room { at + length (alike options image.bytes.now image.len between.now k (count - 1)) ≤ length out.old }
+    ensures { Writes (alike options image.entry.bytes.now image.entry.len between.now k (count - 1)) out.old at out.new result }
 {
     let more = count - 1;
-    let next = rows::put_rows(out, at, kind, image, bits, k * wide, wide, between, more);
+    let next = rows::put_rows(out, at, kind, image, k * wide, wide, between, more);
     let width = bases::base_bits(options.base);
     let from = (k + more) * (wide * 8);
     digits::put_run(
         out,
         next,
         image,
-        bits,
         width,
         BitOffset(from),
         options.digits_per_group,
@@ -146,8 +144,7 @@ fn put_alike(
 fn put_closed(
     out: &mut [u8],
     at: usize,
-    image: &[u8],
-    bits: usize,
+    image: Image,
     options: FormatListOptions,
     kind: ByteDigits,
     wide: usize,
@@ -157,15 +154,15 @@ fn put_closed(
     count: usize,
 ) -> usize
     requires kind { (base_bits options.base ≡ digit_bits kind) × (options.digits_per_group ≡ wide * digits_per_byte kind) }
-    requires inside { (0 < count) × ((k + count) * (wide * 8) ≤ bits) × (bits ≤ 8 * length image.now) × (bits ≤ 16777216) × (0 < wide) × (wide ≤ 64) }
-    requires room { at + length (alike options image.now bits between.now k (count - 1) ++ between2.now) ≤ length out.old }
-    ensures { Writes (alike options image.now bits between.now k (count - 1) ++ between2.now) out.old at out.new result }
+    requires inside { (0 < count) × ((k + count) * (wide * 8) ≤ image.len) × (image.len ≤ 8 * length image.bytes.now) × (image.len ≤ 16777216) × (0 < wide) × (wide ≤ 64) }
+    requires room { at + length (alike options image.bytes.now image.len between.now k (count - 1) ++ between2.now) ≤ length out.old }
+    ensures { Writes (alike options image.entry.bytes.now image.entry.len between.now k (count - 1) ++ between2.now) out.old at out.new result }
 {
     if between2.len() < between.len() {
-        let end = put_alike(out, at, image, bits, options, kind, wide, between, k, count);
+        let end = put_alike(out, at, image, options, kind, wide, between, k, count);
         return output::put_text(out, end, between2);
     }
-    let next = rows::put_rows(out, at, kind, image, bits, k * wide, wide, between, count);
+    let next = rows::put_rows(out, at, kind, image, k * wide, wide, between, count);
     output::put_text(out, next - between.len(), between2)
 }
 
@@ -173,8 +170,7 @@ fn put_closed(
 fn put_byte_groups(
     out: &mut [u8],
     at: usize,
-    image: &[u8],
-    bits: usize,
+    image: Image,
     options: FormatListOptions,
     between: &[u8],
     between2: &[u8],
@@ -183,31 +179,20 @@ fn put_byte_groups(
     count: usize,
 ) -> usize
     requires kind { (base_bits options.base ≡ digit_bits kind) × (options.digits_per_group ≡ wide * digits_per_byte kind) × (0 < length between2.now → 0 < options.groups_per_group2) }
-    requires inside { (0 < count) × ((count - 1) * (wide * 8) ≤ bits) × (bits ≤ 8 * length image.now) × (bits ≤ 16777216) × (0 < wide) × (wide ≤ 64) }
-    requires room { at + length (joined (between_groups options between.now between2.now) (group_text options image.now bits) count) ≤ length out.old }
-    ensures { Writes (joined (between_groups options between.now between2.now) (group_text options image.now bits) count) out.old at out.new result }
+    requires inside { (0 < count) × ((count - 1) * (wide * 8) ≤ image.len) × (image.len ≤ 8 * length image.bytes.now) × (image.len ≤ 16777216) × (0 < wide) × (wide ≤ 64) }
+    requires room { at + length (joined (between_groups options between.now between2.now) (group_text options image.bytes.now image.len) count) ≤ length out.old }
+    ensures { Writes (joined (between_groups options between.now between2.now) (group_text options image.entry.bytes.now image.entry.len) count) out.old at out.new result }
 {
     let size = segment(options, between2, count);
     let mut next = at;
     let mut k = 0;
     while size < count - k {
         next = put_closed(
-            out, next, image, bits, options, kind, wide, between, between2, k, size,
+            out, next, image, options, kind, wide, between, between2, k, size,
         );
         k += size;
     }
-    put_alike(
-        out,
-        next,
-        image,
-        bits,
-        options,
-        kind,
-        wide,
-        between,
-        k,
-        count - k,
-    )
+    put_alike(out, next, image, options, kind, wide, between, k, count - k)
 }
 
 // How many bytes `digits` digits are, where a byte has `per_byte` of them: 0, where they are not whole
@@ -250,8 +235,7 @@ fn group_kind(width: usize) -> ByteDigits
 fn put_all_groups(
     out: &mut [u8],
     at: usize,
-    image: &[u8],
-    bits: usize,
+    image: Image,
     options: FormatListOptions,
     between: &[u8],
     between2: &[u8],
@@ -259,9 +243,9 @@ fn put_all_groups(
     count: usize,
 ) -> usize
     requires options { (0 < length between2.now → 0 < options.groups_per_group2) × (width ≡ base_bits options.base) × (0 < options.digits_per_group) × (options.digits_per_group ≤ 64) }
-    requires size { (count * group_bits options < 2 ^ 32) × (count ≡ ceil_div bits (group_bits options)) × (bits ≤ 8 * length image.now) × (bits ≤ 16777216) }
-    requires room { at + length (joined (between_groups options between.now between2.now) (group_text options image.now bits) count) ≤ length out.old }
-    ensures { Writes (joined (between_groups options between.now between2.now) (group_text options image.now bits) count) out.old at out.new result }
+    requires size { (count * group_bits options < 2 ^ 32) × (count ≡ ceil_div image.len (group_bits options)) × (image.len ≤ 8 * length image.bytes.now) × (image.len ≤ 16777216) }
+    requires room { at + length (joined (between_groups options between.now between2.now) (group_text options image.bytes.now image.len) count) ≤ length out.old }
+    ensures { Writes (joined (between_groups options between.now between2.now) (group_text options image.entry.bytes.now image.entry.len) count) out.old at out.new result }
 {
     if count == 0 {
         return at;
@@ -271,14 +255,13 @@ fn put_all_groups(
     if wide == 0 {
         let every = segment(options, between2, count);
         return digit_groups::put_groups(
-            out, at, image, bits, width, digits, every, between, between2, count,
+            out, at, image, width, digits, every, between, between2, count,
         );
     }
     put_byte_groups(
         out,
         at,
         image,
-        bits,
         options,
         between,
         between2,
@@ -290,8 +273,7 @@ fn put_all_groups(
 
 // Stores the list of `count` groups.
 fn write_list(
-    image: &[u8],
-    bits: usize,
+    image: Image,
     options: FormatListOptions,
     before: &[u8],
     after: &[u8],
@@ -301,21 +283,18 @@ fn write_list(
     count: usize,
     out: &mut [u8],
 ) -> usize
-    requires { (0 < length between2.now → 0 < options.groups_per_group2) × (width ≡ base_bits options.base) × (0 < options.digits_per_group) × (options.digits_per_group ≤ 64) × (count * group_bits options < 2 ^ 32) × (count ≡ ceil_div bits (group_bits options)) × (bits ≤ 8 * length image.now) × (bits ≤ 16777216) × (length (list_text options before.now after.now between.now between2.now image.now bits) ≤ length out.old) }
-    ensures { Writes (list_text options before.now after.now between.now between2.now image.now bits) out.old 0 out.new result }
+    requires { (0 < length between2.now → 0 < options.groups_per_group2) × (width ≡ base_bits options.base) × (0 < options.digits_per_group) × (options.digits_per_group ≤ 64) × (count * group_bits options < 2 ^ 32) × (count ≡ ceil_div image.len (group_bits options)) × (image.len ≤ 8 * length image.bytes.now) × (image.len ≤ 16777216) × (length (list_text options before.now after.now between.now between2.now image.bytes.now image.len) ≤ length out.old) }
+    ensures { Writes (list_text options before.now after.now between.now between2.now image.entry.bytes.now image.entry.len) out.old 0 out.new result }
 {
     let mut next = output::put_all(out, 0, before);
-    next = put_all_groups(
-        out, next, image, bits, options, between, between2, width, count,
-    );
+    next = put_all_groups(out, next, image, options, between, between2, width, count);
     output::put_all(out, next, after)
 }
 
 // Digits in a base of 2, 4, 8, 16 or 32, 1 to 64 of them a group, with strings of at most 256 bytes
 // before, after and between the groups.
 pub fn format_list(
-    image: &[u8],
-    bits: usize,
+    image: Image,
     options: FormatListOptions,
     before: &[u8],
     after: &[u8],
@@ -323,22 +302,22 @@ pub fn format_list(
     between2: &[u8],
     out: &mut [u8],
 ) -> Export
-    ensures { Exports (list_outcome image.now bits options before.now after.now between.now between2.now (length out.old)) result out.old out.new }
+    ensures { Exports (list_outcome image.entry.bytes.now image.entry.len options before.now after.now between.now between2.now (length out.old)) result out.old out.new }
 {
-    if bitvec::bad_size(image, bits) {
-        return Export::ImageSize;
+    if image.bad_size() {
+        return Err(Refusal::ImageSize);
     }
     if bad_list(options, before, after, between, between2) {
-        return Export::OptionRange;
+        return Err(Refusal::OptionRange);
     }
     let width = bases::base_bits(options.base);
-    let count = bitvec::parts(bits, options.digits_per_group * width);
+    let count = bitvec::parts(image.len, options.digits_per_group * width);
     let strings = strings_length(options, count, between, between2);
     let needed = before.len() + (strings + count * options.digits_per_group) + after.len();
     if out.len() < needed {
-        return Export::NoRoom(needed);
+        return Err(Refusal::NoRoom(needed));
     }
-    Export::Text(write_list(
-        image, bits, options, before, after, between, between2, width, count, out,
+    Ok(write_list(
+        image, options, before, after, between, between2, width, count, out,
     ))
 }

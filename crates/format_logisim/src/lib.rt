@@ -16,9 +16,9 @@ ghost use Rattle.rows.specs.Rows.{rows_text};
 ghost use Rattle.format_logisim.specs.Logisim.{chunk_text, chunk_at, logisim_text, logisim_outcome};
 ghost use Rattle.format_logisim.specs.Short.{breaks, per_line, digit_of, spaced_digits, broken_digits, byte_chunks, whole_chunks};
 
-use bitvec::BitOffset;
+use bitvec::{BitOffset, Image};
 use numbers::Letters;
-use outcome::Export;
+use outcome::{Export, Refusal};
 use rows::ByteDigits;
 
 // The length of a chunk of `count` bits from `from` on, whatever the image.
@@ -81,19 +81,12 @@ fn chunks_length(bits: usize, width: usize, chunks: usize) -> usize
 }
 
 // Stores a chunk of `count` bits from `from` on.
-fn put_chunk(
-    out: &mut [u8],
-    at: usize,
-    image: &[u8],
-    bits: usize,
-    from: BitOffset,
-    count: usize,
-) -> usize
-    requires { (from.0 + count < 2 ^ 64) × (at + length (chunk_text image.now bits from.0 count) ≤ length out.old) }
-    ensures { Writes (chunk_text image.now bits from.0 count) out.old at out.new result }
+fn put_chunk(out: &mut [u8], at: usize, image: Image, from: BitOffset, count: usize) -> usize
+    requires { (from.0 + count < 2 ^ 64) × (at + length (chunk_text image.bytes.now image.len from.0 count) ≤ length out.old) }
+    ensures { Writes (chunk_text image.entry.bytes.now image.entry.len from.0 count) out.old at out.new result }
 {
     let end = from.0 + count;
-    let mut next = hex_line::put_hex_line(out, at, image, bits, from, count);
+    let mut next = hex_line::put_hex_line(out, at, image, from, count);
     next = output::put(out, next, b' ');
     output::put_every(out, next, 16, end / 8, b'\n')
 }
@@ -102,22 +95,21 @@ fn put_chunk(
 fn put_chunks(
     out: &mut [u8],
     at: usize,
-    image: &[u8],
-    bits: usize,
+    image: Image,
     width: usize,
     first: usize,
     chunks: usize,
 ) -> usize
-    requires size { (0 < width) × (width ≤ 4096) × (bits ≤ 16777216) × (chunks ≡ ceil_div bits width) × (first ≤ chunks) }
-    requires room { at + length (pieces (λ k. chunk_at image.now bits width (first + k)) (chunks - first)) ≤ length out.old }
-    ensures { Writes (pieces (λ k. chunk_at image.now bits width (first + k)) (chunks - first)) out.old at out.new result }
+    requires size { (0 < width) × (width ≤ 4096) × (image.len ≤ 16777216) × (chunks ≡ ceil_div image.len width) × (first ≤ chunks) }
+    requires room { at + length (pieces (λ k. chunk_at image.bytes.now image.len width (first + k)) (chunks - first)) ≤ length out.old }
+    ensures { Writes (pieces (λ k. chunk_at image.entry.bytes.now image.entry.len width (first + k)) (chunks - first)) out.old at out.new result }
 {
     let mut offset = first * width;
     let mut next = at;
     let mut i = first;
     while i < chunks {
-        let count = output::smaller(width, bits - offset);
-        next = put_chunk(out, next, image, bits, BitOffset(offset), count);
+        let count = width.min(image.len - offset);
+        next = put_chunk(out, next, image, BitOffset(offset), count);
         offset += width;
         i += 1;
     }
@@ -129,50 +121,38 @@ fn put_chunks(
 fn put_sixteen(
     out: &mut [u8],
     at: usize,
-    image: &[u8],
-    bits: usize,
+    image: Image,
     first: usize,
     size: usize,
     count: usize,
 ) -> usize
-    requires inside { (count * size ≡ 16) × ((first + 16) * 8 ≤ bits) × (first + 16 ≤ length image.now) }
+    requires inside { (count * size ≡ 16) × ((first + 16) * 8 ≤ image.len) × (first + 16 ≤ length image.bytes.now) }
     requires room { at + count * (size * 2 + 1) ≤ length out.old }
-    ensures { Writes (rows_text Hex image.now bits first size (ascii " ") count) out.old at out.new result }
+    ensures { Writes (rows_text Hex image.entry.bytes.now image.entry.len first size (ascii " ") count) out.old at out.new result }
 {
     if size == 1 {
-        return rows::put_by_twos(out, at, image, bits, first, b' ', 8);
+        return rows::put_by_twos(out, at, image, first, b' ', 8);
     }
-    rows::put_rows(
-        out,
-        at,
-        ByteDigits::Hex,
-        image,
-        bits,
-        first,
-        size,
-        b" ",
-        count,
-    )
+    rows::put_rows(out, at, ByteDigits::Hex, image, first, size, b" ", count)
 }
 
 // Stores `lines` lines of 16 whole bytes of the image: `count` chunks of `size` bytes each.
 fn put_lines(
     out: &mut [u8],
     at: usize,
-    image: &[u8],
-    bits: usize,
+    image: Image,
     size: usize,
     count: usize,
     lines: usize,
 ) -> usize
-    requires inside { (0 < size) × (0 < count) × (size * count ≡ 16) × (lines * 128 ≤ bits) × (bits ≤ 8 * length image.now) }
-    requires room { at + length (pieces (chunk_at image.now bits (size * 8)) (lines * count)) ≤ length out.old }
-    ensures { Writes (pieces (chunk_at image.now bits (size * 8)) (lines * count)) out.old at out.new result }
+    requires inside { (0 < size) × (0 < count) × (size * count ≡ 16) × (lines * 128 ≤ image.len) × (image.len ≤ 8 * length image.bytes.now) }
+    requires room { at + length (pieces (chunk_at image.bytes.now image.len (size * 8)) (lines * count)) ≤ length out.old }
+    ensures { Writes (pieces (chunk_at image.entry.bytes.now image.entry.len (size * 8)) (lines * count)) out.old at out.new result }
 {
     let mut next = at;
     let mut k = 0;
     while k < lines {
-        next = put_sixteen(out, next, image, bits, k * 16, size, count);
+        next = put_sixteen(out, next, image, k * 16, size, count);
         next = output::put(out, next, b'\n');
         k += 1;
     }
@@ -212,20 +192,20 @@ fn spaced_fours(byte: u8) -> u64
 
 // Stores byte `j` in digits of `width` bits with a space behind each. For digits of one bit the byte is
 // read for each word, which keeps the stores of the two apart, and the compiler joins those of each.
-fn put_spaced(out: &mut [u8], at: usize, image: &[u8], bits: usize, width: usize, j: usize) -> usize
+fn put_spaced(out: &mut [u8], at: usize, image: Image, width: usize, j: usize) -> usize
     requires short { (width ≤ 4) × (width * (8 / width) ≡ 8) }
-    requires inside { (j * 8 + 8 ≤ bits) × (j < length image.now) }
+    requires inside { (j * 8 + 8 ≤ image.len) × (j < length image.bytes.now) }
     requires room { at + 8 / width * 2 ≤ length out.old }
-    ensures { Writes (spaced_digits width (8 / width) (byte_at image.now bits j)) out.old at out.new result }
+    ensures { Writes (spaced_digits width (8 / width) (byte_at image.entry.bytes.now image.entry.len j)) out.old at out.new result }
 {
     if width == 1 {
-        let next = eight_chars::put_word(out, at, spaced_ones(image[j] / 16));
-        return eight_chars::put_word(out, next, spaced_ones(image[j] % 16));
+        let next = eight_chars::put_word(out, at, spaced_ones(image.bytes[j] / 16));
+        return eight_chars::put_word(out, next, spaced_ones(image.bytes[j] % 16));
     }
     if width == 2 {
-        return eight_chars::put_word(out, at, spaced_twos(image[j]));
+        return eight_chars::put_word(out, at, spaced_twos(image.bytes[j]));
     }
-    hex_pair::put_four(out, at, spaced_fours(image[j]))
+    hex_pair::put_four(out, at, spaced_fours(image.bytes[j]))
 }
 
 // Stores `count` bytes from byte `first` on in such digits. The loop tests no place, so that the compiler
@@ -233,20 +213,19 @@ fn put_spaced(out: &mut [u8], at: usize, image: &[u8], bits: usize, width: usize
 fn put_row(
     out: &mut [u8],
     at: usize,
-    image: &[u8],
-    bits: usize,
+    image: Image,
     width: usize,
     first: usize,
     count: usize,
 ) -> usize
     requires short { (width ≤ 4) × (width * (8 / width) ≡ 8) }
-    requires inside { ((first + count) * 8 ≤ bits) × (first + count ≤ length image.now) }
+    requires inside { ((first + count) * 8 ≤ image.len) × (first + count ≤ length image.bytes.now) }
     requires room { at + count * (8 / width * 2) ≤ length out.old }
-    ensures { Writes (pieces (λ k. spaced_digits width (8 / width) (byte_at image.now bits (first + k))) count) out.old at out.new result }
+    ensures { Writes (pieces (λ k. spaced_digits width (8 / width) (byte_at image.entry.bytes.now image.entry.len (first + k))) count) out.old at out.new result }
 {
     let mut next = at;
     for k in 0..count {
-        next = put_spaced(out, next, image, bits, width, first + k);
+        next = put_spaced(out, next, image, width, first + k);
     }
     next
 }
@@ -278,44 +257,29 @@ fn put_broken(out: &mut [u8], at: usize, byte: u8, width: usize) -> usize
 }
 
 // Stores `count` bytes of a line, from its first byte `j` on, in chunks of `width` bits.
-fn put_line(
-    out: &mut [u8],
-    at: usize,
-    image: &[u8],
-    bits: usize,
-    width: usize,
-    j: usize,
-    count: usize,
-) -> usize
+fn put_line(out: &mut [u8], at: usize, image: Image, width: usize, j: usize, count: usize) -> usize
     requires short { (width ≤ 4) × (width * (8 / width) ≡ 8) }
-    requires inside { (j % 16 ≡ 0) × (0 < count) × (count ≤ 16) × ((j + count) * 8 ≤ bits) × (j + count ≤ length image.now) }
-    requires room { at + length (pieces (λ i. byte_chunks image.now bits width (8 / width) (j + i)) count) ≤ length out.old }
-    ensures { Writes (pieces (λ i. byte_chunks image.now bits width (8 / width) (j + i)) count) out.old at out.new result }
+    requires inside { (j % 16 ≡ 0) × (0 < count) × (count ≤ 16) × ((j + count) * 8 ≤ image.len) × (j + count ≤ length image.bytes.now) }
+    requires room { at + length (pieces (λ i. byte_chunks image.bytes.now image.len width (8 / width) (j + i)) count) ≤ length out.old }
+    ensures { Writes (pieces (λ i. byte_chunks image.entry.bytes.now image.entry.len width (8 / width) (j + i)) count) out.old at out.new result }
 {
-    let mut next = put_broken(out, at, image[j], width);
-    next = put_row(out, next, image, bits, width, j + 1, count - 1);
+    let mut next = put_broken(out, at, image.bytes[j], width);
+    next = put_row(out, next, image, width, j + 1, count - 1);
     output::put_every(out, next, 16, count, b'\n')
 }
 
 // Stores the first `count` bytes in chunks of `width` bits.
-fn put_bytes(
-    out: &mut [u8],
-    at: usize,
-    image: &[u8],
-    bits: usize,
-    width: usize,
-    count: usize,
-) -> usize
+fn put_bytes(out: &mut [u8], at: usize, image: Image, width: usize, count: usize) -> usize
     requires short { (width ≤ 4) × (width * (8 / width) ≡ 8) }
-    requires inside { (count * 8 ≤ bits) × (bits ≤ 8 * length image.now) }
-    requires room { at + length (pieces (chunk_at image.now bits width) (count * (8 / width))) ≤ length out.old }
-    ensures { Writes (pieces (chunk_at image.now bits width) (count * (8 / width))) out.old at out.new result }
+    requires inside { (count * 8 ≤ image.len) × (image.len ≤ 8 * length image.bytes.now) }
+    requires room { at + length (pieces (chunk_at image.bytes.now image.len width) (count * (8 / width))) ≤ length out.old }
+    ensures { Writes (pieces (chunk_at image.entry.bytes.now image.entry.len width) (count * (8 / width))) out.old at out.new result }
 {
     let mut next = at;
     let mut j = 0;
     while j < count {
-        let size = output::smaller(16, count - j);
-        next = put_line(out, next, image, bits, width, j, size);
+        let size = (count - j).min(16);
+        next = put_line(out, next, image, width, j, size);
         j += size;
     }
     next
@@ -352,51 +316,51 @@ fn whole_chunks(bits: usize, width: usize) -> usize
 
 // Stores these chunks. Each width is a number in its call, so that no loop tests it.
 #[tactic(auto, unfolding(crate::specs::Short::by_bytes, crate::specs::Short::per_line, crate::specs::Short::whole_chunks))]
-fn put_whole(out: &mut [u8], at: usize, image: &[u8], bits: usize, width: usize) -> usize
-    requires inside { bits ≤ 8 * length image.now }
-    requires room { at + length (pieces (chunk_at image.now bits width) (whole_chunks bits width)) ≤ length out.old }
-    ensures { Writes (pieces (chunk_at image.now bits width) (whole_chunks bits width)) out.old at out.new result }
+fn put_whole(out: &mut [u8], at: usize, image: Image, width: usize) -> usize
+    requires inside { image.len ≤ 8 * length image.bytes.now }
+    requires room { at + length (pieces (chunk_at image.bytes.now image.len width) (whole_chunks image.len width)) ≤ length out.old }
+    ensures { Writes (pieces (chunk_at image.entry.bytes.now image.entry.len width) (whole_chunks image.entry.len width)) out.old at out.new result }
 {
-    let bytes = bits / 8;
-    let lines = bits / 128;
+    let bytes = image.len / 8;
+    let lines = image.len / 128;
     match width {
-        1 => put_bytes(out, at, image, bits, 1, bytes),
-        2 => put_bytes(out, at, image, bits, 2, bytes),
-        4 => put_bytes(out, at, image, bits, 4, bytes),
-        8 => put_lines(out, at, image, bits, 1, 16, lines),
-        16 => put_lines(out, at, image, bits, 2, 8, lines),
-        32 => put_lines(out, at, image, bits, 4, 4, lines),
+        1 => put_bytes(out, at, image, 1, bytes),
+        2 => put_bytes(out, at, image, 2, bytes),
+        4 => put_bytes(out, at, image, 4, bytes),
+        8 => put_lines(out, at, image, 1, 16, lines),
+        16 => put_lines(out, at, image, 2, 8, lines),
+        32 => put_lines(out, at, image, 4, 4, lines),
         _ => at,
     }
 }
 
 // Stores the file, of `chunks` chunks: those that go by bytes or by lines, and then the others.
-fn write_logisim(image: &[u8], bits: usize, width: usize, chunks: usize, out: &mut [u8]) -> usize
-    requires size { (0 < width) × (width ≤ 4096) × (bits ≤ 16777216) × (bits ≤ 8 * length image.now) × (chunks ≡ ceil_div bits width) }
-    requires room { length (logisim_text image.now bits width) ≤ length out.old }
-    ensures { Writes (logisim_text image.now bits width) out.old 0 out.new result }
+fn write_logisim(image: Image, width: usize, chunks: usize, out: &mut [u8]) -> usize
+    requires size { (0 < width) × (width ≤ 4096) × (image.len ≤ 16777216) × (image.len ≤ 8 * length image.bytes.now) × (chunks ≡ ceil_div image.len width) }
+    requires room { length (logisim_text image.bytes.now image.len width) ≤ length out.old }
+    ensures { Writes (logisim_text image.entry.bytes.now image.entry.len width) out.old 0 out.new result }
 {
-    let whole = whole_chunks(bits, width);
+    let whole = whole_chunks(image.len, width);
     let mut next = output::put_all(out, 0, b"v2.0 raw\n");
-    next = put_whole(out, next, image, bits, width);
-    put_chunks(out, next, image, bits, width, whole, chunks)
+    next = put_whole(out, next, image, width);
+    put_chunks(out, next, image, width, whole, chunks)
 }
 
 // Chunks of 1 to 4,096 bits in hexadecimal.
 #[tactic(auto, using(bitvec::proofs::Size::size_good, outcome::proofs::Outcome::inside), unfolding(crate::specs::Logisim::logisim_outcome))]
-pub fn format_logisim(image: &[u8], bits: usize, bits_per_chunk: usize, out: &mut [u8]) -> Export
-    ensures { Exports (logisim_outcome image.now bits bits_per_chunk (length out.old)) result out.old out.new }
+pub fn format_logisim(image: Image, bits_per_chunk: usize, out: &mut [u8]) -> Export
+    ensures { Exports (logisim_outcome image.entry.bytes.now image.entry.len bits_per_chunk (length out.old)) result out.old out.new }
 {
-    if bitvec::bad_size(image, bits) {
-        return Export::ImageSize;
+    if image.bad_size() {
+        return Err(Refusal::ImageSize);
     }
     if outcome::outside(1, 4096, bits_per_chunk) {
-        return Export::OptionRange;
+        return Err(Refusal::OptionRange);
     }
-    let chunks = bitvec::parts(bits, bits_per_chunk);
-    let needed = 9 + chunks_length(bits, bits_per_chunk, chunks);
+    let chunks = bitvec::parts(image.len, bits_per_chunk);
+    let needed = 9 + chunks_length(image.len, bits_per_chunk, chunks);
     if out.len() < needed {
-        return Export::NoRoom(needed);
+        return Err(Refusal::NoRoom(needed));
     }
-    Export::Text(write_logisim(image, bits, bits_per_chunk, chunks, out))
+    Ok(write_logisim(image, bits_per_chunk, chunks, out))
 }

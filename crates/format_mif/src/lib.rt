@@ -11,8 +11,9 @@ ghost use Rattle.numbers.specs.Digits.{digit_count};
 ghost use Rattle.format_mif.specs.Mif.{mif_line, mif_text, mif_outcome};
 ghost use Rattle.format_mif.specs.Line.{line_head, line_rest};
 
-use numbers::Letters;
-use outcome::Export;
+use bitvec::Image;
+use numbers::{Letters, Radix};
+use outcome::{Export, Refusal};
 
 // The length of the file of `count` bytes whose addresses have `width` digits.
 #[tactic(auto, using(crate::proofs::Lengths::counts_few))]
@@ -34,7 +35,15 @@ fn line_head(row: usize, width: usize) -> [u8; 8]
     if row == 0 {
         return head;
     }
-    numbers::put_column(&mut head, 0, Letters::Upper, row as u64, 16, b' ', width);
+    numbers::put_column(
+        &mut head,
+        0,
+        Letters::Upper,
+        row as u64,
+        Radix::HEX,
+        b' ',
+        width,
+    );
     head
 }
 
@@ -57,45 +66,37 @@ fn put_mif_line(out: &mut [u8], at: usize, head: &[u8], width: usize, digit: u8,
 fn put_mif_row(
     out: &mut [u8],
     at: usize,
-    image: &[u8],
-    bits: usize,
+    image: Image,
     whole: usize,
     width: usize,
     row: usize,
     count: usize,
 ) -> usize
-    requires bytes { (row * 16 + count < 2 ^ 32) × (whole * 8 ≤ bits) × (whole ≤ length image.now) }
+    requires bytes { (row * 16 + count < 2 ^ 32) × (whole * 8 ≤ image.len) × (whole ≤ length image.bytes.now) }
     requires fits { (count ≤ 16) × (digit_count 16 (row * 16 + (count - 1)) ≤ width) × (width ≤ 8) }
-    requires room { at + length (pieces (λ j. mif_line image.now bits width (row * 16 + j)) count) ≤ length out.old }
-    ensures { Writes (pieces (λ j. mif_line image.now bits width (row * 16 + j)) count) out.old at out.new result }
+    requires room { at + length (pieces (λ j. mif_line image.bytes.now image.len width (row * 16 + j)) count) ≤ length out.old }
+    ensures { Writes (pieces (λ j. mif_line image.entry.bytes.now image.entry.len width (row * 16 + j)) count) out.old at out.new result }
 {
     let head = line_head(row, width);
     let mut next = at;
     for j in 0..count {
-        let byte = byte_list::byte_of(image, bits, whole, row * 16 + j);
+        let byte = byte_list::byte_of(image, whole, row * 16 + j);
         next = put_mif_line(out, next, &head, width, j as u8, byte);
     }
     next
 }
 
 // Stores the lines of `count` bytes.
-fn put_mif_lines(
-    out: &mut [u8],
-    at: usize,
-    image: &[u8],
-    bits: usize,
-    width: usize,
-    count: usize,
-) -> usize
-    requires { (count ≤ 2 ^ 24) × (width ≡ digit_count 16 (count - 1)) × (at + length (pieces (mif_line image.now bits width) count) ≤ length out.old) }
-    ensures { Writes (pieces (mif_line image.now bits width) count) out.old at out.new result }
+fn put_mif_lines(out: &mut [u8], at: usize, image: Image, width: usize, count: usize) -> usize
+    requires { (count ≤ 2 ^ 24) × (width ≡ digit_count 16 (count - 1)) × (at + length (pieces (mif_line image.bytes.now image.len width) count) ≤ length out.old) }
+    ensures { Writes (pieces (mif_line image.entry.bytes.now image.entry.len width) count) out.old at out.new result }
 {
-    let whole = byte_list::whole_bytes(image, bits, count);
+    let whole = byte_list::whole_bytes(image, count);
     let mut next = at;
     let mut row = 0;
     while row * 16 < count {
-        let lines = output::smaller(count - row * 16, 16);
-        next = put_mif_row(out, next, image, bits, whole, width, row, lines);
+        let lines = (count - row * 16).min(16);
+        next = put_mif_row(out, next, image, whole, width, row, lines);
         row += 1;
     }
     next
@@ -103,37 +104,37 @@ fn put_mif_lines(
 
 // Stores the file, of `count` bytes.
 #[tactic(auto, using(crate::proofs::Lengths::mif_parts, numbers::proofs::Digits::number_length))]
-fn write_mif(image: &[u8], bits: usize, count: usize, width: usize, out: &mut [u8]) -> usize
-    requires { (count ≤ 2 ^ 24) × (count ≡ ceil_div bits 8) × (width ≡ digit_count 16 (count - 1)) × (length (mif_text image.now bits) ≤ length out.old) }
-    ensures { Writes (mif_text image.now bits) out.old 0 out.new result }
+fn write_mif(image: Image, count: usize, width: usize, out: &mut [u8]) -> usize
+    requires { (count ≤ 2 ^ 24) × (count ≡ ceil_div image.len 8) × (width ≡ digit_count 16 (count - 1)) × (length (mif_text image.bytes.now image.len) ≤ length out.old) }
+    ensures { Writes (mif_text image.entry.bytes.now image.entry.len) out.old 0 out.new result }
 {
     let mut next = output::put_all(out, 0, b"DEPTH = ");
-    next = numbers::put_number(out, next, Letters::Lower, count as u64, 10);
+    next = numbers::put_number(out, next, Letters::Lower, count as u64, Radix::DECIMAL);
     next = output::put_all(
         out,
         next,
         b";\nWIDTH = 8;\nADDRESS_RADIX = HEX;\nDATA_RADIX = HEX;\n\nCONTENT\nBEGIN\n",
     );
-    next = put_mif_lines(out, next, image, bits, width, count);
+    next = put_mif_lines(out, next, image, width, count);
     output::put_all(out, next, b"END;")
 }
 
 // A line for each byte of an image that is not empty.
 #[tactic(auto, using(bitvec::proofs::Size::size_good, outcome::proofs::Outcome::exports_text, outcome::proofs::Outcome::exports_no_room), unfolding(bitvec::specs::Size::ceil_div, crate::specs::Mif::mif_outcome))]
-pub fn format_mif(image: &[u8], bits: usize, out: &mut [u8]) -> Export
-    ensures { Exports (mif_outcome image.now bits (length out.old)) result out.old out.new }
+pub fn format_mif(image: Image, out: &mut [u8]) -> Export
+    ensures { Exports (mif_outcome image.entry.bytes.now image.entry.len (length out.old)) result out.old out.new }
 {
-    if bitvec::bad_size(image, bits) {
-        return Export::ImageSize;
+    if image.bad_size() {
+        return Err(Refusal::ImageSize);
     }
-    if bits == 0 {
-        return Export::EmptyImage;
+    if image.len == 0 {
+        return Err(Refusal::EmptyImage);
     }
-    let count = bitvec::parts(bits, 8);
+    let count = bitvec::parts(image.len, 8);
     let width = numbers::digit_count((count - 1) as u64, 16);
     let needed = mif_length(count, width);
     if out.len() < needed {
-        return Export::NoRoom(needed);
+        return Err(Refusal::NoRoom(needed));
     }
-    Export::Text(write_mif(image, bits, count, width, out))
+    Ok(write_mif(image, count, width, out))
 }

@@ -7,8 +7,8 @@ ghost use Rattle.output.specs.Writes.{Writes};
 ghost use Rattle.outcome.specs.Outcome.{Exports};
 ghost use Rattle.format_plain.specs.Binary.{binary_text, binary_outcome, padded_in};
 
-use bitvec::BitOffset;
-use outcome::Export;
+use bitvec::{BitOffset, Image};
+use outcome::{Export, Refusal};
 
 // What `format_binary` answers: the export, and whether padding was added, where the Rust warns.
 #[derive(Clone, Copy)]
@@ -18,51 +18,51 @@ pub struct BinaryExport {
 }
 
 // Stores the first `whole` bytes of the image, none of which the image fills in part.
-fn put_whole(image: &[u8], bits: usize, whole: usize, out: &mut [u8]) -> usize
-    requires { (whole * 8 ≤ bits) × (whole ≤ length image.now) × (whole ≤ length out.old) }
-    ensures { Writes (pieces (λ k. byte_at image.now bits k ∷ []) whole) out.old 0 out.new result }
+fn put_whole(image: Image, whole: usize, out: &mut [u8]) -> usize
+    requires { (whole * 8 ≤ image.len) × (whole ≤ length image.bytes.now) × (whole ≤ length out.old) }
+    ensures { Writes (pieces (λ k. byte_at image.entry.bytes.now image.entry.len k ∷ []) whole) out.old 0 out.new result }
 {
     let mut next = 0;
     while next < whole {
-        next = output::put(out, next, image[next]);
+        next = output::put(out, next, image.bytes[next]);
     }
     next
 }
 
 // Stores the bytes: the whole ones, and then a last one that the image fills in part.
-fn write_binary(image: &[u8], bits: usize, count: usize, out: &mut [u8]) -> usize
-    requires { (count ≡ ceil_div bits 8) × (count ≤ length out.old) × (bits < 2 ^ 32) × (bits ≤ 8 * length image.now) }
-    ensures { Writes (binary_text image.now bits) out.old 0 out.new result }
+fn write_binary(image: Image, count: usize, out: &mut [u8]) -> usize
+    requires { (count ≡ ceil_div image.len 8) × (count ≤ length out.old) × (image.len < 2 ^ 32) × (image.len ≤ 8 * length image.bytes.now) }
+    ensures { Writes (binary_text image.entry.bytes.now image.entry.len) out.old 0 out.new result }
 {
-    let next = put_whole(image, bits, bits / 8, out);
+    let next = put_whole(image, image.len / 8, out);
     if next == count {
         return next;
     }
-    let byte = bitvec::read_byte(image, bits, BitOffset(next * 8));
+    let byte = image.read_byte(BitOffset(next * 8));
     output::put(out, next, byte)
 }
 
 // The image's bytes, the last one filled with zeros.
-pub fn format_binary(image: &[u8], bits: usize, out: &mut [u8]) -> BinaryExport
-    ensures exports { Exports (binary_outcome image.now bits (length out.old)) result.export out.old out.new }
-    ensures padding { result.padded ≡ padded_in (binary_outcome image.now bits (length out.old)) bits }
+pub fn format_binary(image: Image, out: &mut [u8]) -> BinaryExport
+    ensures exports { Exports (binary_outcome image.entry.bytes.now image.entry.len (length out.old)) result.export out.old out.new }
+    ensures padding { result.padded ≡ padded_in (binary_outcome image.entry.bytes.now image.entry.len (length out.old)) image.entry.len }
 {
-    if bitvec::bad_size(image, bits) {
+    if image.bad_size() {
         return BinaryExport {
             export: Export::ImageSize,
             padded: false,
         };
     }
-    let count = bitvec::parts(bits, 8);
+    let count = bitvec::parts(image.len, 8);
     if out.len() < count {
         return BinaryExport {
-            export: Export::NoRoom(count),
+            export: Refusal::NoRoom(count),
             padded: false,
         };
     }
-    let written = write_binary(image, bits, count, out);
+    let written = write_binary(image, count, out);
     BinaryExport {
-        export: Export::Text(written),
-        padded: bits % 8 != 0,
+        export: Ok(written),
+        padded: image.len % 8 != 0,
     }
 }

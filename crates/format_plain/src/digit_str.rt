@@ -3,36 +3,36 @@ ghost use Rattle.std.specs.Prelude.{length};
 ghost use Rattle.outcome.specs.Outcome.{Exports};
 ghost use Rattle.format_plain.specs.Str.{str_outcome};
 
-use bitvec::BitOffset;
-use outcome::Export;
+use bitvec::{BitOffset, Image};
+use outcome::{Export, Refusal};
 
 // Digits of 1 to 5 bits, the last one filled with zeros.
-pub fn format_str(image: &[u8], bits: usize, bits_per_digit: usize, out: &mut [u8]) -> Export
-    ensures { Exports (str_outcome image.now bits bits_per_digit (length out.old)) result out.old out.new }
+pub fn format_str(image: Image, bits_per_digit: usize, out: &mut [u8]) -> Export
+    ensures { Exports (str_outcome image.entry.bytes.now image.entry.len bits_per_digit (length out.old)) result out.old out.new }
 {
-    if bitvec::bad_size(image, bits) {
-        return Export::ImageSize;
+    if image.bad_size() {
+        return Err(Refusal::ImageSize);
     }
     if outcome::outside(1, 5, bits_per_digit) {
-        return Export::OptionRange;
+        return Err(Refusal::OptionRange);
     }
-    let count = bitvec::parts(bits, bits_per_digit);
+    let count = bitvec::parts(image.len, bits_per_digit);
     if out.len() < count {
-        return Export::NoRoom(count);
+        return Err(Refusal::NoRoom(count));
     }
-    Export::Text(digits::put_run(out, 0, image, bits, bits_per_digit, BitOffset(0), count))
+    Ok(digits::put_run(out, 0, image, bits_per_digit, BitOffset(0), count))
 }
 
 // One digit for each bit.
-pub fn format_binstr(image: &[u8], bits: usize, out: &mut [u8]) -> Export
-    ensures { Exports (str_outcome image.now bits 1 (length out.old)) result out.old out.new }
+pub fn format_binstr(image: Image, out: &mut [u8]) -> Export
+    ensures { Exports (str_outcome image.entry.bytes.now image.entry.len 1 (length out.old)) result out.old out.new }
 {
-    format_str(image, bits, 1, out)
+    format_str(image, 1, out)
 }
 
 // Hexadecimal digits.
-pub fn format_hexstr(image: &[u8], bits: usize, out: &mut [u8]) -> Export
-    ensures { Exports (str_outcome image.now bits 4 (length out.old)) result out.old out.new }
+pub fn format_hexstr(image: Image, out: &mut [u8]) -> Export
+    ensures { Exports (str_outcome image.entry.bytes.now image.entry.len 4 (length out.old)) result out.old out.new }
 {
-    format_str(image, bits, 4, out)
+    format_str(image, 4, out)
 }

@@ -11,8 +11,8 @@ ghost use Rattle.format_readmem.specs.declared.Readmem.TheVariants.{Hex};
 ghost use Rattle.format_readmem.specs.Readmem.{line_text, line_at, readmem_text, readmem_outcome, readmemb_outcome, readmemh_outcome};
 ghost use Rattle.format_readmem.specs.Runs.{byte_digits_of, Runs};
 
-use bitvec::BitOffset;
-use outcome::Export;
+use bitvec::{BitOffset, Image};
+use outcome::{Export, Refusal};
 use rows::ByteDigits;
 
 // Which of the two files: a digit for each bit, or hexadecimal digits.
@@ -48,17 +48,16 @@ fn put_line(
     out: &mut [u8],
     at: usize,
     kind: Readmem,
-    image: &[u8],
-    bits: usize,
+    image: Image,
     from: BitOffset,
     count: usize,
 ) -> usize
-    requires { (from.0 + count < 2 ^ 64) × (at + length (line_text kind image.now bits from.0 count) ≤ length out.old) }
-    ensures { Writes (line_text kind image.now bits from.0 count) out.old at out.new result }
+    requires { (from.0 + count < 2 ^ 64) × (at + length (line_text kind image.bytes.now image.len from.0 count) ≤ length out.old) }
+    ensures { Writes (line_text kind image.entry.bytes.now image.entry.len from.0 count) out.old at out.new result }
 {
     match kind {
-        Readmem::Binary => digits::put_run(out, at, image, bits, 1, from, count),
-        Readmem::Hex => hex_line::put_hex_line(out, at, image, bits, from, count),
+        Readmem::Binary => digits::put_run(out, at, image, 1, from, count),
+        Readmem::Hex => hex_line::put_hex_line(out, at, image, from, count),
     }
 }
 
@@ -67,22 +66,21 @@ fn put_lines(
     out: &mut [u8],
     at: usize,
     kind: Readmem,
-    image: &[u8],
-    bits: usize,
+    image: Image,
     width: usize,
     first: usize,
     lines: usize,
 ) -> usize
-    requires size { (0 < width) × (width ≤ 4096) × (bits ≤ 16777216) × (lines ≡ ceil_div bits width) × (first ≤ lines) }
-    requires room { at + length (pieces (λ k. line_at kind image.now bits width (first + k)) (lines - first)) ≤ length out.old }
-    ensures { Writes (pieces (λ k. line_at kind image.now bits width (first + k)) (lines - first)) out.old at out.new result }
+    requires size { (0 < width) × (width ≤ 4096) × (image.len ≤ 16777216) × (lines ≡ ceil_div image.len width) × (first ≤ lines) }
+    requires room { at + length (pieces (λ k. line_at kind image.bytes.now image.len width (first + k)) (lines - first)) ≤ length out.old }
+    ensures { Writes (pieces (λ k. line_at kind image.entry.bytes.now image.entry.len width (first + k)) (lines - first)) out.old at out.new result }
 {
     let mut offset = first * width;
     let mut next = at;
     let mut i = first;
     while i < lines {
-        let count = output::smaller(width, bits - offset);
-        next = put_line(out, next, kind, image, bits, BitOffset(offset), count);
+        let count = width.min(image.len - offset);
+        next = put_line(out, next, kind, image, BitOffset(offset), count);
         next = output::put(out, next, b'\n');
         offset += width;
         i += 1;
@@ -102,23 +100,16 @@ fn byte_digits(kind: Readmem) -> ByteDigits
 
 // Stores the file, of `lines` lines, where these are of whole bytes: those that the image fills, and then
 // the last one.
-fn write_rows(
-    kind: Readmem,
-    image: &[u8],
-    bits: usize,
-    width: usize,
-    lines: usize,
-    out: &mut [u8],
-) -> usize
-    requires size { (0 < width) × (width ≤ 4096) × (bits ≤ 16777216) × (bits ≤ 8 * length image.now) × (lines ≡ ceil_div bits width) }
+fn write_rows(kind: Readmem, image: Image, width: usize, lines: usize, out: &mut [u8]) -> usize
+    requires size { (0 < width) × (width ≤ 4096) × (image.len ≤ 16777216) × (image.len ≤ 8 * length image.bytes.now) × (lines ≡ ceil_div image.len width) }
     requires bytes { width % 8 ≡ 0 }
-    requires room { length (readmem_text kind image.now bits width) ≤ length out.old }
-    ensures { Writes (readmem_text kind image.now bits width) out.old 0 out.new result }
+    requires room { length (readmem_text kind image.bytes.now image.len width) ≤ length out.old }
+    ensures { Writes (readmem_text kind image.entry.bytes.now image.entry.len width) out.old 0 out.new result }
 {
-    let whole = bits / width;
+    let whole = image.len / width;
     let digits = byte_digits(kind);
-    let next = rows::put_rows(out, 0, digits, image, bits, 0, width / 8, b"\n", whole);
-    put_lines(out, next, kind, image, bits, width, whole, lines)
+    let next = rows::put_rows(out, 0, digits, image, 0, width / 8, b"\n", whole);
+    put_lines(out, next, kind, image, width, whole, lines)
 }
 
 // How many bits a digit of a hexadecimal line has, if all have as many, and 0 if not.
@@ -152,74 +143,60 @@ fn digit_bits(kind: Readmem, width: usize) -> usize
 
 // Stores the file, of `lines` lines: where all digits have as many bits, those of many lines are made at
 // once.
-fn write_narrow(
-    kind: Readmem,
-    image: &[u8],
-    bits: usize,
-    width: usize,
-    lines: usize,
-    out: &mut [u8],
-) -> usize
-    requires size { (0 < width) × (width ≤ 4096) × (bits ≤ 16777216) × (lines ≡ ceil_div bits width) }
-    requires room { length (readmem_text kind image.now bits width) ≤ length out.old }
-    ensures { Writes (readmem_text kind image.now bits width) out.old 0 out.new result }
+fn write_narrow(kind: Readmem, image: Image, width: usize, lines: usize, out: &mut [u8]) -> usize
+    requires size { (0 < width) × (width ≤ 4096) × (image.len ≤ 16777216) × (lines ≡ ceil_div image.len width) }
+    requires room { length (readmem_text kind image.bytes.now image.len width) ≤ length out.old }
+    ensures { Writes (readmem_text kind image.entry.bytes.now image.entry.len width) out.old 0 out.new result }
 {
     let digit = digit_bits(kind, width);
     if digit == 0 {
-        return put_lines(out, 0, kind, image, bits, width, 0, lines);
+        return put_lines(out, 0, kind, image, width, 0, lines);
     }
-    let whole = bits / width;
+    let whole = image.len / width;
     let size = width / digit;
-    let next = digit_lines::put_lines(out, 0, image, bits, digit, BitOffset(0), size, b'\n', whole);
-    put_lines(out, next, kind, image, bits, width, whole, lines)
+    let next = digit_lines::put_lines(out, 0, image, digit, BitOffset(0), size, b'\n', whole);
+    put_lines(out, next, kind, image, width, whole, lines)
 }
 
 // Stores the file, of `lines` lines.
-fn write_readmem(
-    kind: Readmem,
-    image: &[u8],
-    bits: usize,
-    width: usize,
-    lines: usize,
-    out: &mut [u8],
-) -> usize
-    requires size { (0 < width) × (width ≤ 4096) × (bits ≤ 16777216) × (bits ≤ 8 * length image.now) × (lines ≡ ceil_div bits width) }
-    requires room { length (readmem_text kind image.now bits width) ≤ length out.old }
-    ensures { Writes (readmem_text kind image.now bits width) out.old 0 out.new result }
+fn write_readmem(kind: Readmem, image: Image, width: usize, lines: usize, out: &mut [u8]) -> usize
+    requires size { (0 < width) × (width ≤ 4096) × (image.len ≤ 16777216) × (image.len ≤ 8 * length image.bytes.now) × (lines ≡ ceil_div image.len width) }
+    requires room { length (readmem_text kind image.bytes.now image.len width) ≤ length out.old }
+    ensures { Writes (readmem_text kind image.entry.bytes.now image.entry.len width) out.old 0 out.new result }
 {
     if width % 8 == 0 {
-        return write_rows(kind, image, bits, width, lines, out);
+        return write_rows(kind, image, width, lines, out);
     }
-    write_narrow(kind, image, bits, width, lines, out)
+    write_narrow(kind, image, width, lines, out)
 }
 
-fn format_readmem(kind: Readmem, image: &[u8], bits: usize, width: usize, out: &mut [u8]) -> Export
-    ensures { Exports (readmem_outcome kind image.now bits width (length out.old)) result out.old out.new }
+fn format_readmem(kind: Readmem, image: Image, width: usize, out: &mut [u8]) -> Export
+    ensures { Exports (readmem_outcome kind image.entry.bytes.now image.entry.len width (length out.old)) result out.old out.new }
 {
-    if bitvec::bad_size(image, bits) {
-        return Export::ImageSize;
+    if image.bad_size() {
+        return Err(Refusal::ImageSize);
     }
     if outcome::outside(1, 4096, width) {
-        return Export::OptionRange;
+        return Err(Refusal::OptionRange);
     }
-    let needed = readmem_length(kind, bits, width);
+    let needed = readmem_length(kind, image.len, width);
     if out.len() < needed {
-        return Export::NoRoom(needed);
+        return Err(Refusal::NoRoom(needed));
     }
-    let lines = bitvec::parts(bits, width);
-    Export::Text(write_readmem(kind, image, bits, width, lines, out))
+    let lines = bitvec::parts(image.len, width);
+    Ok(write_readmem(kind, image, width, lines, out))
 }
 
 // The file that `$readmemb` reads: lines of 1 to 4,096 bits.
-pub fn format_readmemb(image: &[u8], bits: usize, width: usize, out: &mut [u8]) -> Export
-    ensures { Exports (readmemb_outcome image.now bits width (length out.old)) result out.old out.new }
+pub fn format_readmemb(image: Image, width: usize, out: &mut [u8]) -> Export
+    ensures { Exports (readmemb_outcome image.entry.bytes.now image.entry.len width (length out.old)) result out.old out.new }
 {
-    format_readmem(Readmem::Binary, image, bits, width, out)
+    format_readmem(Readmem::Binary, image, width, out)
 }
 
 // The file that `$readmemh` reads: lines of 1 to 4,096 bits, in hexadecimal.
-pub fn format_readmemh(image: &[u8], bits: usize, width: usize, out: &mut [u8]) -> Export
-    ensures { Exports (readmemh_outcome image.now bits width (length out.old)) result out.old out.new }
+pub fn format_readmemh(image: Image, width: usize, out: &mut [u8]) -> Export
+    ensures { Exports (readmemh_outcome image.entry.bytes.now image.entry.len width (length out.old)) result out.old out.new }
 {
-    format_readmem(Readmem::Hex, image, bits, width, out)
+    format_readmem(Readmem::Hex, image, width, out)
 }

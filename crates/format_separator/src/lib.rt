@@ -6,42 +6,28 @@ ghost use Rattle.std.specs.Prelude.{length};
 ghost use Rattle.outcome.specs.Outcome.{Exports};
 ghost use Rattle.format_separator.specs.Separator.{separator_outcome};
 
+use bitvec::Image;
 use byte_lines::LineStart;
-use outcome::Export;
+use outcome::{Export, Refusal};
 
 // The bytes in radix 10 or 16, with a separator of at most 256 bytes and sixteen bytes a line.
 #[tactic(auto, using(bitvec::proofs::Size::size_good, outcome::proofs::Outcome::short), unfolding(bitvec::specs::Size::ceil_div, crate::specs::Separator::separator_outcome))]
-pub fn format_separator(
-    image: &[u8],
-    bits: usize,
-    radix: usize,
-    separator: &[u8],
-    out: &mut [u8],
-) -> Export
-    ensures { Exports (separator_outcome image.now bits radix separator.now (length out.old)) result out.old out.new }
+pub fn format_separator(image: Image, radix: usize, separator: &[u8], out: &mut [u8]) -> Export
+    ensures { Exports (separator_outcome image.entry.bytes.now image.entry.len radix separator.now (length out.old)) result out.old out.new }
 {
-    if bitvec::bad_size(image, bits) {
-        return Export::ImageSize;
+    if image.bad_size() {
+        return Err(Refusal::ImageSize);
     }
     if byte_list::bad_radix(radix) {
-        return Export::OptionRange;
+        return Err(Refusal::OptionRange);
     }
     if outcome::too_long(separator) {
-        return Export::OptionRange;
+        return Err(Refusal::OptionRange);
     }
-    let count = bitvec::parts(bits, 8);
-    let needed = byte_list::list_length(image, bits, radix, count, separator.len(), 1);
+    let count = bitvec::parts(image.len, 8);
+    let needed = byte_list::list_length(image, radix, count, separator.len(), 1);
     if out.len() < needed {
-        return Export::NoRoom(needed);
+        return Err(Refusal::NoRoom(needed));
     }
-    Export::Text(byte_lines::put_list(
-        out,
-        0,
-        image,
-        bits,
-        radix,
-        separator,
-        LineStart::Newline,
-        count,
-    ))
+    Ok(byte_lines::put_list(out, 0, image, radix, separator, LineStart::Newline, count))
 }

@@ -7,57 +7,35 @@ ghost use Rattle.bitvec.specs.Bits.{bits_at};
 ghost use Rattle.numbers.specs.Digits.{digits_of};
 ghost use Rattle.digits.specs.Run.{short_digit, hex_line};
 
-use bitvec::BitOffset;
+use bitvec::{BitOffset, Image};
 use numbers::Letters;
 
 // Stores the digit of `width` bits from `from` on, and nothing where the width is 0.
-fn put_short(
-    out: &mut [u8],
-    at: usize,
-    bytes: &[u8],
-    len: usize,
-    width: usize,
-    from: BitOffset,
-) -> usize
+fn put_short(out: &mut [u8], at: usize, image: Image, width: usize, from: BitOffset) -> usize
     requires { (width ≤ 5) × (from.0 + width < 2 ^ 64) × (at + min 1 width ≤ length out.old) }
-    ensures { Writes (short_digit bytes.now len width from.0) out.old at out.new result }
+    ensures { Writes (short_digit image.entry.bytes.now image.entry.len width from.0) out.old at out.new result }
 {
     if width == 0 {
         return at;
     }
-    digits::put_digit(out, at, bytes, len, width, from)
+    digits::put_digit(out, at, image, width, from)
 }
 
 // Stores `count` bits from `from` on in hexadecimal: the short digit, and then a run of whole ones.
-fn put_by_runs(
-    out: &mut [u8],
-    at: usize,
-    bytes: &[u8],
-    len: usize,
-    from: BitOffset,
-    count: usize,
-) -> usize
+fn put_by_runs(out: &mut [u8], at: usize, image: Image, from: BitOffset, count: usize) -> usize
     requires { (from.0 + count < 2 ^ 64) × (at + (count + 3) / 4 ≤ length out.old) }
-    ensures { Writes (hex_line bytes.now len from.0 count) out.old at out.new result }
+    ensures { Writes (hex_line image.entry.bytes.now image.entry.len from.0 count) out.old at out.new result }
 {
     let short = count % 4;
     let start = from.0;
-    let next = put_short(out, at, bytes, len, short, from);
-    digits::put_run(
-        out,
-        next,
-        bytes,
-        len,
-        4,
-        BitOffset(start + short),
-        count / 4,
-    )
+    let next = put_short(out, at, image, short, from);
+    digits::put_run(out, next, image, 4, BitOffset(start + short), count / 4)
 }
 
 // Whether `count` bits from bit `from` on, of which there are some, can be cut out of eight whole bytes
 // of the image.
-fn in_word(bytes: &[u8], len: usize, from: usize, count: usize) -> bool
-    ensures { result ≡ true → (0 < count) × (count ≤ 56) × ((from / 8 + 8) * 8 ≤ len) × (from / 8 + 8 ≤ length bytes.now) }
+fn in_word(image: Image, from: usize, count: usize) -> bool
+    ensures { result ≡ true → (0 < count) × (count ≤ 56) × ((from / 8 + 8) * 8 ≤ image.entry.len) × (from / 8 + 8 ≤ length image.entry.bytes.now) }
 {
     if count < 1 {
         return false;
@@ -65,16 +43,16 @@ fn in_word(bytes: &[u8], len: usize, from: usize, count: usize) -> bool
     if 56 < count {
         return false;
     }
-    from / 8 + 8 <= output::smaller(len / 8, bytes.len())
+    from / 8 + 8 <= image.whole_bytes()
 }
 
 // The number that `count` bits from bit `from` on make, cut out of the eight bytes that hold them.
-fn line_value(bytes: &[u8], len: usize, from: usize, count: usize) -> u64
+fn line_value(image: Image, from: usize, count: usize) -> u64
     requires small { (0 < count) × (count ≤ 56) }
-    requires inside { ((from / 8 + 8) * 8 ≤ len) × (from / 8 + 8 ≤ length bytes.now) }
-    ensures { result ≡ bits_at bytes.now len from count }
+    requires inside { ((from / 8 + 8) * 8 ≤ image.len) × (from / 8 + 8 ≤ length image.bytes.now) }
+    ensures { result ≡ bits_at image.entry.bytes.now image.entry.len from count }
 {
-    let word = bitvec::read_word(bytes, from / 8);
+    let word = bitvec::read_word(image.bytes, from / 8);
     let behind = (64 - (from % 8 + count)) as u64;
     let base: u64 = 1 << count as u64;
     (word >> behind) % base
@@ -96,21 +74,14 @@ fn put_value(out: &mut [u8], at: usize, value: u64, count: usize) -> usize
 
 // Stores `count` bits from `from` on in hexadecimal, the first digit short where `count` is not a
 // multiple of 4.
-pub fn put_hex_line(
-    out: &mut [u8],
-    at: usize,
-    bytes: &[u8],
-    len: usize,
-    from: BitOffset,
-    count: usize,
-) -> usize
+pub fn put_hex_line(out: &mut [u8], at: usize, image: Image, from: BitOffset, count: usize) -> usize
     requires { (from.0 + count < 2 ^ 64) × (at + (count + 3) / 4 ≤ length out.old) }
-    ensures { Writes (hex_line bytes.now len from.0 count) out.old at out.new result }
+    ensures { Writes (hex_line image.entry.bytes.now image.entry.len from.0 count) out.old at out.new result }
 {
     let start = from.0;
-    if in_word(bytes, len, start, count) {
-        let value = line_value(bytes, len, start, count);
+    if in_word(image, start, count) {
+        let value = line_value(image, start, count);
         return put_value(out, at, value, (count + 3) / 4);
     }
-    put_by_runs(out, at, bytes, len, BitOffset(start), count)
+    put_by_runs(out, at, image, BitOffset(start), count)
 }

@@ -10,9 +10,10 @@ ghost use Rattle.intelhex.specs.Hex.{hex_outcome};
 ghost use Rattle.intelhex.specs.TwoImages.{Agree, SameAnswers};
 ghost use Rattle.spans.specs.Spans.{offsets_of, sizes_of};
 
+use bitvec::Image;
 use blocks::Blocks;
 use intelhex::Both;
-use outcome::Export;
+use outcome::{Export, Refusal};
 use spans::{Columns, Span, copy_columns};
 
 // The blocks of the spans whose columns these are.
@@ -40,41 +41,22 @@ pub fn get_blocks(spans: &[Span], block_offsets: &mut [u32], block_sizes: &mut [
 }
 
 // The export of the spans whose columns these are.
-fn column_hex(
-    image: &[u8],
-    bits: usize,
-    columns: Columns,
-    address_unit: usize,
-    out: &mut [u8],
-) -> Export
+fn column_hex(image: Image, columns: Columns, address_unit: usize, out: &mut [u8]) -> Export
     requires { (columns.count ≤ length columns.offsets) × (columns.count ≤ length columns.sizes) }
-    ensures { Exports (hex_outcome image.now bits (take columns.count columns.offsets) (take columns.count columns.sizes) address_unit (length out.old)) result out.old out.new }
+    ensures { Exports (hex_outcome image.entry.bytes.now image.entry.len (take columns.count columns.offsets) (take columns.count columns.sizes) address_unit (length out.old)) result out.old out.new }
 {
     let count = columns.count;
     let offsets = columns.offsets;
     let sizes = columns.sizes;
-    intelhex::format_intelhex(
-        image,
-        bits,
-        &offsets[..count],
-        &sizes[..count],
-        address_unit,
-        out,
-    )
+    intelhex::format_intelhex(image, &offsets[..count], &sizes[..count], address_unit, out)
 }
 
 // Intel HEX records of the blocks that the lent records make, and the end record.
-pub fn format_intelhex(
-    image: &[u8],
-    bits: usize,
-    spans: &[Span],
-    address_unit: usize,
-    out: &mut [u8],
-) -> Export
-    ensures { Exports (hex_outcome image.now bits (offsets_of spans.now) (sizes_of spans.now) address_unit (length out.old)) result out.old out.new }
+pub fn format_intelhex(image: Image, spans: &[Span], address_unit: usize, out: &mut [u8]) -> Export
+    ensures { Exports (hex_outcome image.entry.bytes.now image.entry.len (offsets_of spans.now) (sizes_of spans.now) address_unit (length out.old)) result out.old out.new }
 {
     let columns = copy_columns(spans);
-    column_hex(image, bits, columns, address_unit, out)
+    column_hex(image, columns, address_unit, out)
 }
 
 // The exports of two images with the spans whose columns these are.

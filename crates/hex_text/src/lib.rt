@@ -14,7 +14,7 @@ ghost use Rattle.hex_records.specs.Plan.{hex_plan, block_plan, blocks_at};
 ghost use Rattle.hex_records.specs.Text.{checksum, hex_bytes, record_text, hex_text};
 ghost use Rattle.hex_text.specs.Single.{Pairs, Across};
 
-use bitvec::{BitOffset, UnitAddress, parts, read_across};
+use bitvec::{BitOffset, Image, UnitAddress, parts};
 use hex_records::put_record;
 use output::{put, put_all, smaller};
 use std::num::{wrapping_add_u8, wrapping_sub_u8};
@@ -73,20 +73,19 @@ fn put_single_head(pairs: &[u16], high: u8, low: u8, out: &mut [u8], at: usize) 
 
 // Writes the record of the byte from `from` on, where it and a byte behind it are in the image.
 fn put_single(
-    bytes: &[u8],
-    len: usize,
+    image: Image,
     from: BitOffset,
     address: UnitAddress,
     pairs: &[u16],
     out: &mut [u8],
     at: usize,
 ) -> usize
-    requires inside { Pairs pairs.now × (from.0 + 8 ≤ len) × (from.0 / 8 + 1 < length bytes.now) }
+    requires inside { Pairs pairs.now × (from.0 + 8 ≤ image.len) × (from.0 / 8 + 1 < length image.bytes.now) }
     requires room { (address.0 ≤ 65535) × (at + 14 ≤ length out.old) }
-    ensures { Writes (record_text bytes.now len (record { address = address.0; from = from.0; count = 1 })) out.old at out.new result }
+    ensures { Writes (record_text image.entry.bytes.now image.entry.len (record { address = address.0; from = from.0; count = 1 })) out.old at out.new result }
 {
     let start = from.0;
-    let byte = read_across(bytes, len, start / 8, start % 8, 8);
+    let byte = image.read_across(start / 8, start % 8, 8);
     let high = (address.0 / 256) as u8;
     let low = (address.0 % 256) as u8;
     let check = single_check(high, low, byte);
@@ -108,20 +107,20 @@ fn address_of(from: BitOffset, unit: usize) -> UnitAddress
 }
 
 // A number below which each offset is that of a byte that is in the image with a byte behind it.
-fn across(bytes: &[u8], len: usize) -> usize
-    ensures { Across bytes.now len result }
+fn across(image: Image) -> usize
+    ensures { Across image.entry.bytes.now image.entry.len result }
 {
-    if bytes.len() == 0 {
+    if image.bytes.len() == 0 {
         return 0;
     }
-    let last = bytes.len() - 1;
-    if last < len / 8 {
+    let last = image.bytes.len() - 1;
+    if last < image.len / 8 {
         return last * 8;
     }
-    if len < 8 {
+    if image.len < 8 {
         return 0;
     }
-    len - 7
+    image.len - 7
 }
 
 // Whether a block is one record of one byte, at an offset below `limit`.
@@ -139,8 +138,7 @@ fn is_single(limit: usize, offset: usize, size: usize) -> bool
 
 // Writes the records of a block.
 fn put_records(
-    bytes: &[u8],
-    len: usize,
+    image: Image,
     offset: usize,
     size: usize,
     unit: usize,
@@ -149,8 +147,8 @@ fn put_records(
 ) -> usize
     requires small { (0 < unit) × (offset < 2 ^ 32) × (size < 2 ^ 32) }
     requires low { Each (λ c. c.address ≤ 65535) (block_plan unit (record { offset = offset; size = size })) }
-    requires room { at + length (flat_map (record_text bytes.now len) (block_plan unit (record { offset = offset; size = size }))) ≤ length out.old }
-    ensures { Writes (flat_map (record_text bytes.now len) (block_plan unit (record { offset = offset; size = size }))) out.old at out.new result }
+    requires room { at + length (flat_map (record_text image.bytes.now image.len) (block_plan unit (record { offset = offset; size = size }))) ≤ length out.old }
+    ensures { Writes (flat_map (record_text image.entry.bytes.now image.entry.len) (block_plan unit (record { offset = offset; size = size }))) out.old at out.new result }
 {
     let count = parts(size, 8);
     let records = parts(count, 32);
@@ -158,16 +156,15 @@ fn put_records(
     for n in 0..records {
         let from = offset + 256 * n;
         let address = BitOffset(from).address(unit);
-        let held = smaller(32, count - 32 * n);
-        next = put_record(bytes, len, BitOffset(from), address, held, out, next);
+        let held = (count - 32 * n).min(32);
+        next = put_record(image, BitOffset(from), address, held, out, next);
     }
     next
 }
 
 // The same; the digits of all bytes are lent for the blocks of one byte with an offset below `limit`.
 fn put_block(
-    bytes: &[u8],
-    len: usize,
+    image: Image,
     offset: usize,
     size: usize,
     unit: usize,
@@ -178,21 +175,20 @@ fn put_block(
 ) -> usize
     requires small { (0 < unit) × (offset < 2 ^ 32) × (size < 2 ^ 32) }
     requires low { Each (λ c. c.address ≤ 65535) (block_plan unit (record { offset = offset; size = size })) }
-    requires room { at + length (flat_map (record_text bytes.now len) (block_plan unit (record { offset = offset; size = size }))) ≤ length out.old }
-    requires lent { Across bytes.now len limit × (0 < limit → Pairs pairs.now) }
-    ensures { Writes (flat_map (record_text bytes.now len) (block_plan unit (record { offset = offset; size = size }))) out.old at out.new result }
+    requires room { at + length (flat_map (record_text image.bytes.now image.len) (block_plan unit (record { offset = offset; size = size }))) ≤ length out.old }
+    requires lent { Across image.bytes.now image.len limit × (0 < limit → Pairs pairs.now) }
+    ensures { Writes (flat_map (record_text image.entry.bytes.now image.entry.len) (block_plan unit (record { offset = offset; size = size }))) out.old at out.new result }
 {
     if is_single(limit, offset, size) {
         let address = address_of(BitOffset(offset), unit);
-        return put_single(bytes, len, BitOffset(offset), address, pairs, out, at);
+        return put_single(image, BitOffset(offset), address, pairs, out, at);
     }
-    put_records(bytes, len, offset, size, unit, out, at)
+    put_records(image, offset, size, unit, out, at)
 }
 
 // Writes the records of the blocks whose offsets and sizes are lent.
 fn put_blocks(
-    bytes: &[u8],
-    len: usize,
+    image: Image,
     offsets: &[u32],
     sizes: &[u32],
     unit: usize,
@@ -202,15 +198,14 @@ fn put_blocks(
 ) -> usize
     requires lent { (0 < unit) × (length offsets.now ≡ length sizes.now) }
     requires low { Each (λ c. c.address ≤ 65535) (hex_plan unit (blocks_at offsets.now sizes.now)) }
-    requires room { length (flat_map (record_text bytes.now len) (hex_plan unit (blocks_at offsets.now sizes.now))) ≤ length out.old }
-    requires digits { Across bytes.now len limit × (0 < limit → Pairs pairs.now) }
-    ensures { Writes (flat_map (record_text bytes.now len) (hex_plan unit (blocks_at offsets.now sizes.now))) out.old 0 out.new result }
+    requires room { length (flat_map (record_text image.bytes.now image.len) (hex_plan unit (blocks_at offsets.now sizes.now))) ≤ length out.old }
+    requires digits { Across image.bytes.now image.len limit × (0 < limit → Pairs pairs.now) }
+    ensures { Writes (flat_map (record_text image.entry.bytes.now image.entry.len) (hex_plan unit (blocks_at offsets.now sizes.now))) out.old 0 out.new result }
 {
     let mut next: usize = 0;
     for k in 0..offsets.len() {
         next = put_block(
-            bytes,
-            len,
+            image,
             offsets[k] as usize,
             sizes[k] as usize,
             unit,
@@ -231,59 +226,38 @@ fn no_pairs() -> [u16; 256]
 }
 
 // The same for many blocks: the digits of all bytes are stored first.
-fn put_many(
-    bytes: &[u8],
-    len: usize,
-    offsets: &[u32],
-    sizes: &[u32],
-    unit: usize,
-    out: &mut [u8],
-) -> usize
+fn put_many(image: Image, offsets: &[u32], sizes: &[u32], unit: usize, out: &mut [u8]) -> usize
     requires lent { (0 < unit) × (length offsets.now ≡ length sizes.now) }
     requires low { Each (λ c. c.address ≤ 65535) (hex_plan unit (blocks_at offsets.now sizes.now)) }
-    requires room { length (flat_map (record_text bytes.now len) (hex_plan unit (blocks_at offsets.now sizes.now))) ≤ length out.old }
-    ensures { Writes (flat_map (record_text bytes.now len) (hex_plan unit (blocks_at offsets.now sizes.now))) out.old 0 out.new result }
+    requires room { length (flat_map (record_text image.bytes.now image.len) (hex_plan unit (blocks_at offsets.now sizes.now))) ≤ length out.old }
+    ensures { Writes (flat_map (record_text image.entry.bytes.now image.entry.len) (hex_plan unit (blocks_at offsets.now sizes.now))) out.old 0 out.new result }
 {
     let mut pairs = no_pairs();
     fill_pairs(&mut pairs);
-    let limit = across(bytes, len);
-    put_blocks(bytes, len, offsets, sizes, unit, limit, &pairs, out)
+    let limit = across(image);
+    put_blocks(image, offsets, sizes, unit, limit, &pairs, out)
 }
 
 // The same: for few blocks no digits are stored first.
-fn put_any(
-    bytes: &[u8],
-    len: usize,
-    offsets: &[u32],
-    sizes: &[u32],
-    unit: usize,
-    out: &mut [u8],
-) -> usize
+fn put_any(image: Image, offsets: &[u32], sizes: &[u32], unit: usize, out: &mut [u8]) -> usize
     requires lent { (0 < unit) × (length offsets.now ≡ length sizes.now) }
     requires low { Each (λ c. c.address ≤ 65535) (hex_plan unit (blocks_at offsets.now sizes.now)) }
-    requires room { length (flat_map (record_text bytes.now len) (hex_plan unit (blocks_at offsets.now sizes.now))) ≤ length out.old }
-    ensures { Writes (flat_map (record_text bytes.now len) (hex_plan unit (blocks_at offsets.now sizes.now))) out.old 0 out.new result }
+    requires room { length (flat_map (record_text image.bytes.now image.len) (hex_plan unit (blocks_at offsets.now sizes.now))) ≤ length out.old }
+    ensures { Writes (flat_map (record_text image.entry.bytes.now image.entry.len) (hex_plan unit (blocks_at offsets.now sizes.now))) out.old 0 out.new result }
 {
     if offsets.len() < 64 {
-        return put_blocks(bytes, len, offsets, sizes, unit, 0, &[], out);
+        return put_blocks(image, offsets, sizes, unit, 0, &[], out);
     }
-    put_many(bytes, len, offsets, sizes, unit, out)
+    put_many(image, offsets, sizes, unit, out)
 }
 
 // Writes the records of the blocks whose offsets and sizes are lent, and the end record.
-pub fn write_hex(
-    bytes: &[u8],
-    len: usize,
-    offsets: &[u32],
-    sizes: &[u32],
-    unit: usize,
-    out: &mut [u8],
-) -> usize
+pub fn write_hex(image: Image, offsets: &[u32], sizes: &[u32], unit: usize, out: &mut [u8]) -> usize
     requires lent { (0 < unit) × (length offsets.now ≡ length sizes.now) }
     requires low { Each (λ c. c.address ≤ 65535) (hex_plan unit (blocks_at offsets.now sizes.now)) }
-    requires room { length (hex_text bytes.now len (hex_plan unit (blocks_at offsets.now sizes.now))) ≤ length out.old }
-    ensures { Writes (hex_text bytes.now len (hex_plan unit (blocks_at offsets.now sizes.now))) out.old 0 out.new result }
+    requires room { length (hex_text image.bytes.now image.len (hex_plan unit (blocks_at offsets.now sizes.now))) ≤ length out.old }
+    ensures { Writes (hex_text image.entry.bytes.now image.entry.len (hex_plan unit (blocks_at offsets.now sizes.now))) out.old 0 out.new result }
 {
-    let next = put_any(bytes, len, offsets, sizes, unit, out);
+    let next = put_any(image, offsets, sizes, unit, out);
     put_all(out, next, b":00000001FF")
 }

@@ -7,7 +7,7 @@ ghost use Rattle.intelhex.specs.Hex.{hex_outcome};
 ghost use Rattle.intelhex.specs.TwoImages.{Agree, SameAnswers};
 
 use crate::hex::format_intelhex;
-use outcome::Export;
+use outcome::{Export, Refusal};
 
 // The answers of two exports.
 #[derive(Clone, Copy)]

@@ -11,8 +11,8 @@ ghost use Rattle.job.specs.Job.{word, column, bad_job, job_outcome, printed};
 
 use bitvec::parts;
 use intelhex::format_intelhex;
-use numbers::{Letters, put_number};
-use outcome::Export;
+use numbers::{Letters, Radix, put_number};
+use outcome::{Export, Refusal};
 use output::put_all;
 
 // The byte at a place, as a wider number.
@@ -69,7 +69,7 @@ fn put_refused(number: u32, out: &mut [u8]) -> usize
     ensures length { result ≡ 10 }
 {
     let next = put_all(out, 0, b"refused ");
-    let end = put_number(out, next, Letters::Lower, number as u64, 10);
+    let end = put_number(out, next, Letters::Lower, number as u64, Radix::DECIMAL);
     put_all(out, end, b"\n")
 }
 

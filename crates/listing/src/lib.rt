@@ -8,7 +8,7 @@ ghost use Rattle.output.specs.Writes.{Writes};
 ghost use Rattle.numbers.specs.Digits.{digit_count, padded};
 ghost use Rattle.listing.specs.Listing.{bad_annotated, content_need, addr_title, wider, widths_of, heading};
 
-use numbers::Letters;
+use numbers::{Letters, Radix};
 use ordering::ABSENT;
 
 // The options of a listing. The label switch is 0 for off and 1 for on.
@@ -101,10 +101,10 @@ fn wider(
     let address = digit_count(addr, radix);
     let content = content_need(options, size);
     Widths {
-        outp: output::larger(widths.outp, byte),
-        outp_bit: output::larger(widths.outp_bit, bit),
-        addr: output::larger(widths.addr, address),
-        content: output::larger(widths.content, content),
+        outp: widths.outp.max(byte),
+        outp_bit: widths.outp_bit.max(bit),
+        addr: widths.addr.max(address),
+        content: widths.content.max(content),
     }
 }
 
@@ -143,10 +143,10 @@ fn put_title(out: &mut [u8], at: usize, addr_base: usize, width: usize) -> usize
     if addr_base == 16 {
         return numbers::put_right(out, at, b"addr", width);
     }
-    let free = output::free(title_length(addr_base), width);
+    let free = width.saturating_sub(title_length(addr_base));
     let mut next = output::put_fill(out, at, b' ', free);
     next = output::put_all(out, next, b"addr (base ");
-    next = numbers::put_number(out, next, Letters::Lower, addr_base as u64, 10);
+    next = numbers::put_number(out, next, Letters::Lower, addr_base as u64, Radix::DECIMAL);
     output::put_all(out, next, b")")
 }
 
@@ -155,8 +155,8 @@ pub fn heading_length(options: FormatAnnotatedOptions, widths: Widths) -> usize
     requires { (bad_annotated options ≡ false) × (widths.outp + widths.outp_bit + widths.addr + widths.content ≤ 516) }
     ensures { (result ≡ length (heading options widths)) × (result ≤ 700) }
 {
-    let outp = output::larger(widths.outp + widths.outp_bit + 1, 4);
-    let addr = output::larger(widths.addr, title_length(options.addr_base));
+    let outp = (widths.outp + widths.outp_bit + 1).max(4);
+    let addr = widths.addr.max(title_length(options.addr_base));
     let base = numbers::digit_count(options.base as u64, 10);
     21 + outp + addr + base
 }
@@ -171,6 +171,12 @@ pub fn put_heading(out: &mut [u8], options: FormatAnnotatedOptions, widths: Widt
     next = output::put_all(out, next, b" | ");
     next = put_title(out, next, options.addr_base, widths.addr);
     next = output::put_all(out, next, b" | data (base ");
-    next = numbers::put_number(out, next, Letters::Lower, options.base as u64, 10);
+    next = numbers::put_number(
+        out,
+        next,
+        Letters::Lower,
+        options.base as u64,
+        Radix::DECIMAL,
+    );
     output::put_all(out, next, b")\n\n")
 }

@@ -10,6 +10,7 @@ ghost use Rattle.numbers.specs.Digits.{digit_count, number_text, padded};
 ghost use Rattle.listing.specs.Listing.{bad_annotated, contents, at_left, place, position, line_text};
 ghost use Rattle.listing_lines.specs.Fits.{NumberFits, SpanFits};
 
+use bitvec::Image;
 use listing::{FormatAnnotatedOptions, Widths};
 use numbers::Letters;
 use ordering::ABSENT;
@@ -59,7 +60,7 @@ fn place_length(
     ensures { ((t : List ℕ) → length t ≡ dashes → length (place options width offset number t) ≡ result) × (result ≤ 516) }
 {
     if offset == ABSENT {
-        return output::larger(width, dashes);
+        return width.max(dashes);
     }
     width
 }
@@ -125,7 +126,7 @@ fn address_length(options: FormatAnnotatedOptions, width: usize, offset: u32, ad
 {
     if offset == ABSENT {
         let digits = listing::digit_count(addr, options.addr_base as u64);
-        return output::larger(width, digits);
+        return width.max(digits);
     }
     width
 }
@@ -134,18 +135,17 @@ fn address_length(options: FormatAnnotatedOptions, width: usize, offset: u32, ad
 fn put_column(
     out: &mut [u8],
     at: usize,
-    image: &[u8],
-    bits: usize,
+    image: Image,
     options: FormatAnnotatedOptions,
     width: usize,
     offset: u32,
     size: u32,
 ) -> usize
-    requires { (bad_annotated options ≡ false) × (at + length (at_left width (contents options image.now bits offset size)) ≤ length out.old) }
-    ensures { Writes (at_left width (contents options image.now bits offset size)) out.old at out.new result }
+    requires { (bad_annotated options ≡ false) × (at + length (at_left width (contents options image.bytes.now image.len offset size)) ≤ length out.old) }
+    ensures { Writes (at_left width (contents options image.entry.bytes.now image.entry.len offset size)) out.old at out.new result }
 {
-    let next = listing_contents::put_contents(out, at, image, bits, options, offset, size);
-    let free = output::free(listing_contents::contents_length(options, size), width);
+    let next = listing_contents::put_contents(out, at, image, options, offset, size);
+    let free = width.saturating_sub(listing_contents::contents_length(options, size));
     output::put_fill(out, next, b' ', free)
 }
 
@@ -163,10 +163,9 @@ pub fn line_length(
 {
     let position = position_length(options, widths, offset);
     let address = address_length(options, widths.addr, offset, addr);
-    let content = output::larger(
-        widths.content,
-        listing_contents::contents_length(options, size),
-    );
+    let content = widths
+        .content
+        .max(listing_contents::contents_length(options, size));
     position + address + content + excerpt + 10
 }
 
@@ -174,8 +173,7 @@ pub fn line_length(
 pub fn put_line(
     out: &mut [u8],
     at: usize,
-    image: &[u8],
-    bits: usize,
+    image: Image,
     options: FormatAnnotatedOptions,
     widths: Widths,
     offset: u32,
@@ -183,23 +181,14 @@ pub fn put_line(
     addr: u64,
     excerpt: &[u8],
 ) -> usize
-    requires { (bad_annotated options ≡ false) × SpanFits options widths offset addr × (at + length (line_text options widths image.now bits offset size addr excerpt.now) ≤ length out.old) }
-    ensures { Writes (line_text options widths image.now bits offset size addr excerpt.now) out.old at out.new result }
+    requires { (bad_annotated options ≡ false) × SpanFits options widths offset addr × (at + length (line_text options widths image.bytes.now image.len offset size addr excerpt.now) ≤ length out.old) }
+    ensures { Writes (line_text options widths image.entry.bytes.now image.entry.len offset size addr excerpt.now) out.old at out.new result }
 {
     let mut next = put_position(out, at, options, widths, offset);
     next = output::put_all(out, next, b" | ");
     next = put_address(out, next, options, widths.addr, offset, addr);
     next = output::put_all(out, next, b" | ");
-    next = put_column(
-        out,
-        next,
-        image,
-        bits,
-        options,
-        widths.content,
-        offset,
-        size,
-    );
+    next = put_column(out, next, image, options, widths.content, offset, size);
     next = output::put_all(out, next, b" ; ");
     next = output::put_all(out, next, excerpt);
     output::put(out, next, b'\n')

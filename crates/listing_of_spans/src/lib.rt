@@ -8,14 +8,14 @@ ghost use Rattle.listing.specs.Listing.{spans_of};
 ghost use Rattle.annotated.specs.Annotated.{annotated_outcome};
 ghost use Rattle.listing_of_spans.specs.Records.{record_spans};
 
+use bitvec::Image;
 use listing::FormatAnnotatedOptions;
-use outcome::Export;
+use outcome::{Export, Refusal};
 use spans::{Columns, ListingColumns, Span, copy_columns, copy_listing_columns};
 
 // The listing of the spans whose columns these are.
 fn column_listing<'a>(
-    image: &[u8],
-    bits: usize,
+    image: Image,
     columns: Columns,
     others: ListingColumns,
     firmware: &'a [u8],
@@ -24,7 +24,7 @@ fn column_listing<'a>(
     out: &mut [u8],
 ) -> Export
     requires { (columns.count ≤ length columns.offsets) × (columns.count ≤ length columns.sizes) × (columns.count ≤ length others.addrs) × (columns.count ≤ length others.files) × (columns.count ≤ length others.starts) × (columns.count ≤ length others.ends) }
-    ensures { Exports (annotated_outcome image.now bits options (spans_of (take columns.count columns.offsets) (take columns.count columns.sizes) (take columns.count others.addrs) (take columns.count others.files) (take columns.count others.starts) (take columns.count others.ends)) firmware.now protocol.now (length out.old)) result out.old out.new }
+    ensures { Exports (annotated_outcome image.entry.bytes.now image.entry.len options (spans_of (take columns.count columns.offsets) (take columns.count columns.sizes) (take columns.count others.addrs) (take columns.count others.files) (take columns.count others.starts) (take columns.count others.ends)) firmware.now protocol.now (length out.old)) result out.old out.new }
 {
     let count = columns.count;
     let offsets = columns.offsets;
@@ -35,7 +35,6 @@ fn column_listing<'a>(
     let ends = others.ends;
     annotated::format_annotated(
         image,
-        bits,
         &offsets[..count],
         &sizes[..count],
         &addrs[..count],
@@ -51,19 +50,16 @@ fn column_listing<'a>(
 
 // The listing of the lent records.
 pub fn format_annotated<'a>(
-    image: &[u8],
-    bits: usize,
+    image: Image,
     spans: &[Span],
     firmware: &'a [u8],
     protocol: &'a [u8],
     options: FormatAnnotatedOptions,
     out: &mut [u8],
 ) -> Export
-    ensures { Exports (annotated_outcome image.now bits options (record_spans spans.now) firmware.now protocol.now (length out.old)) result out.old out.new }
+    ensures { Exports (annotated_outcome image.entry.bytes.now image.entry.len options (record_spans spans.now) firmware.now protocol.now (length out.old)) result out.old out.new }
 {
     let columns = copy_columns(spans);
     let others = copy_listing_columns(spans);
-    column_listing(
-        image, bits, columns, others, firmware, protocol, options, out,
-    )
+    column_listing(image, columns, others, firmware, protocol, options, out)
 }

@@ -11,6 +11,7 @@ ghost use Rattle.listing.specs.Listing.{bad_annotated, widths_of, spans_of, show
 ghost use Rattle.listing_lines.specs.Fits.{SpanFits};
 ghost use Rattle.listing_spans.specs.Faults.{misplaced, faulty, span_fault};
 
+use bitvec::Image;
 use listing::{FormatAnnotatedOptions, Widths};
 use ordering::ABSENT;
 
@@ -120,8 +121,7 @@ fn span_length<'a>(
 fn put_span<'a>(
     out: &mut [u8],
     at: usize,
-    image: &[u8],
-    bits: usize,
+    image: Image,
     options: FormatAnnotatedOptions,
     widths: Widths,
     offset: u32,
@@ -134,14 +134,12 @@ fn put_span<'a>(
     end: u64,
 ) -> usize
     requires sound { (bad_annotated options ≡ false) × SpanFits options widths offset addr × (faulty options firmware.now protocol.now offset size file start end ≡ false) }
-    requires room { at + length (span_line options widths image.now bits offset size addr (excerpt_of firmware.now protocol.now file start end)) ≤ length out.old }
-    ensures { Writes (span_line options widths image.now bits offset size addr (excerpt_of firmware.now protocol.now file start end)) out.old at out.new result }
+    requires room { at + length (span_line options widths image.bytes.now image.len offset size addr (excerpt_of firmware.now protocol.now file start end)) ≤ length out.old }
+    ensures { Writes (span_line options widths image.entry.bytes.now image.entry.len offset size addr (excerpt_of firmware.now protocol.now file start end)) out.old at out.new result }
 {
     if shown(options, size) {
         let text = sources::excerpt(firmware, protocol, file, start as usize, end as usize);
-        return listing_lines::put_line(
-            out, at, image, bits, options, widths, offset, size, addr, text,
-        );
+        return listing_lines::put_line(out, at, image, options, widths, offset, size, addr, text);
     }
     at
 }
@@ -181,8 +179,7 @@ pub fn lines_length<'a>(
 pub fn put_lines<'a>(
     out: &mut [u8],
     at: usize,
-    image: &[u8],
-    bits: usize,
+    image: Image,
     options: FormatAnnotatedOptions,
     widths: Widths,
     places: &[u32],
@@ -199,15 +196,15 @@ pub fn put_lines<'a>(
     requires lengths { (length sizes.now ≡ length offsets.now) × (length addrs.now ≡ length offsets.now) × (length files.now ≡ length offsets.now) × (length starts.now ≡ length offsets.now) × (length ends.now ≡ length offsets.now) }
     requires sound { span_fault options (spans_of offsets.now sizes.now addrs.now files.now starts.now ends.now) firmware.now protocol.now ≡ length offsets.now }
     requires places { Each (λ p. p < length offsets.now) places.now }
-    requires room { at + length (flat_map (line_at options widths image.now bits (spans_of offsets.now sizes.now addrs.now files.now starts.now ends.now) firmware.now protocol.now) places.now) ≤ length out.old }
-    ensures { Writes (flat_map (line_at options widths image.now bits (spans_of offsets.now sizes.now addrs.now files.now starts.now ends.now) firmware.now protocol.now) places.now) out.old at out.new result }
+    requires room { at + length (flat_map (line_at options widths image.bytes.now image.len (spans_of offsets.now sizes.now addrs.now files.now starts.now ends.now) firmware.now protocol.now) places.now) ≤ length out.old }
+    ensures { Writes (flat_map (line_at options widths image.entry.bytes.now image.entry.len (spans_of offsets.now sizes.now addrs.now files.now starts.now ends.now) firmware.now protocol.now) places.now) out.old at out.new result }
 {
     let mut next = at;
     for k in 0..places.len() {
         let p = places[k] as usize;
         next = put_span(
-            out, next, image, bits, options, widths, offsets[p], sizes[p], addrs[p], firmware,
-            protocol, files[p], starts[p], ends[p],
+            out, next, image, options, widths, offsets[p], sizes[p], addrs[p], firmware, protocol,
+            files[p], starts[p], ends[p],
         );
     }
     next

@@ -6,13 +6,34 @@ ghost use Rattle.output.specs.Writes.{Writes};
 ghost use Rattle.numbers.specs.declared.Letters.TheVariants.{Lower};
 ghost use Rattle.numbers.specs.Digits.{letter_ten, digit_char, byte_text, digit_count, number_text, padded};
 
-use output::{free, put, put_fill};
+use output::{put, put_fill};
 
 // The letters of the digits above nine.
 #[derive(Clone, Copy)]
 pub enum Letters {
     Lower,
     Upper,
+}
+
+// The radix of a number that is written: 2 to 36.
+#[derive(Clone, Copy)]
+pub struct Radix {
+    pub value: u64,
+    ghost in_range: { (2 ≤ value) × (value ≤ 36) },
+}
+
+impl Radix {
+    pub const DECIMAL: Radix = Radix { value: 10 };
+
+    pub const HEX: Radix = Radix { value: 16 };
+
+    // The radix of a number in the range.
+    pub fn new(value: u64) -> Radix
+        requires { (2 ≤ value) × (value ≤ 36) }
+        ensures { result.value ≡ value }
+    {
+        Radix { value }
+    }
 }
 
 fn letter_ten(letters: Letters) -> u8
@@ -98,21 +119,20 @@ fn put_counted(
     at: usize,
     letters: Letters,
     value: u64,
-    radix: u64,
+    radix: Radix,
     count: usize,
 ) -> usize
-    requires range { (2 ≤ radix) × (radix ≤ 36) }
-    requires counted { (count ≡ digit_count radix value) × (at + count ≤ length out.old) }
-    ensures { Writes (number_text letters radix value) out.old at out.new result }
+    requires { (count ≡ digit_count radix.value value) × (at + count ≤ length out.old) }
+    ensures { Writes (number_text letters radix.value value) out.old at out.new result }
 {
     let end = at + count;
     let mut place = end;
     let mut rest = value;
-    while radix <= rest {
+    while radix.value <= rest {
         place -= 1;
-        let digit = (rest % radix) as u8;
+        let digit = (rest % radix.value) as u8;
         out[place] = digit_char(letters, digit);
-        rest = rest / radix;
+        rest = rest / radix.value;
     }
     let first = rest as u8;
     out[at] = digit_char(letters, first);
@@ -120,11 +140,11 @@ fn put_counted(
 }
 
 // Stores a number in a radix of 2 to 36, with no padding.
-pub fn put_number(out: &mut [u8], at: usize, letters: Letters, value: u64, radix: u64) -> usize
-    requires { (2 ≤ radix) × (radix ≤ 36) × (at + digit_count radix value ≤ length out.old) }
-    ensures { Writes (number_text letters radix value) out.old at out.new result }
+pub fn put_number(out: &mut [u8], at: usize, letters: Letters, value: u64, radix: Radix) -> usize
+    requires { at + digit_count radix.value value ≤ length out.old }
+    ensures { Writes (number_text letters radix.value value) out.old at out.new result }
 {
-    let count = digit_count(value, radix);
+    let count = digit_count(value, radix.value);
     put_counted(out, at, letters, value, radix, count)
 }
 
@@ -134,15 +154,15 @@ pub fn put_padded(
     at: usize,
     letters: Letters,
     value: u64,
-    radix: u64,
+    radix: Radix,
     fill: u8,
     width: usize,
 ) -> usize
-    requires { (2 ≤ radix) × (radix ≤ 36) × (at + max width (digit_count radix value) ≤ length out.old) }
-    ensures { Writes (padded fill width (number_text letters radix value)) out.old at out.new result }
+    requires { at + max width (digit_count radix.value value) ≤ length out.old }
+    ensures { Writes (padded fill width (number_text letters radix.value value)) out.old at out.new result }
 {
-    let count = digit_count(value, radix);
-    let next = put_fill(out, at, fill, free(count, width));
+    let count = digit_count(value, radix.value);
+    let next = put_fill(out, at, fill, width.saturating_sub(count));
     put_counted(out, next, letters, value, radix, count)
 }
 
@@ -153,21 +173,20 @@ pub fn put_column(
     at: usize,
     letters: Letters,
     value: u64,
-    radix: u64,
+    radix: Radix,
     fill: u8,
     width: usize,
 ) -> usize
-    requires range { (2 ≤ radix) × (radix ≤ 36) }
-    requires fits { (digit_count radix value ≤ width) × (at + width ≤ length out.old) }
-    ensures { Writes (padded fill width (number_text letters radix value)) out.old at out.new result }
+    requires { (digit_count radix.value value ≤ width) × (at + width ≤ length out.old) }
+    ensures { Writes (padded fill width (number_text letters radix.value value)) out.old at out.new result }
 {
     let end = at + width;
     let mut place = end - 1;
     let mut rest = value;
-    while radix <= rest {
-        out[place] = digit_char(letters, (rest % radix) as u8);
+    while radix.value <= rest {
+        out[place] = digit_char(letters, (rest % radix.value) as u8);
         place -= 1;
-        rest = rest / radix;
+        rest = rest / radix.value;
     }
     out[place] = digit_char(letters, rest as u8);
     put_fill(out, at, fill, place - at);
@@ -179,6 +198,6 @@ pub fn put_right(out: &mut [u8], at: usize, s: &[u8], width: usize) -> usize
     requires { at + max width (length s.now) ≤ length out.old }
     ensures { Writes (padded 32 width s.now) out.old at out.new result }
 {
-    let next = output::put_fill(out, at, b' ', output::free(s.len(), width));
+    let next = output::put_fill(out, at, b' ', width.saturating_sub(s.len()));
     output::put_all(out, next, s)
 }

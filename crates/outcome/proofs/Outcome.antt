@@ -10,7 +10,8 @@ use lib.Dec.{ltb}
 use lib.ListN.{length}
 use borrow.Author.Tests.{lt-ltb, le-ltb, ltb-false}
 use Rattle.output.specs.Writes.{Writes}
-use Rattle.outcome.specs.declared.Export.TheVariants.{Text, NoRoom}
+use Rattle.std.specs.Prelude.{Ok, Err}
+use Rattle.outcome.specs.declared.Refusal.TheVariants.{NoRoom}
 use Rattle.outcome.specs.Outcome.{text, refused, answer_of, outside, too_long, in_room, Exports}
 
 -- An option that is not outside its range is in it.
@@ -34,13 +35,13 @@ pub room_short : (room : ℕ) (t : List ℕ) → room < length t → in_room roo
 room_short room t h = simp (lt-ltb room (length t) h)
 
 -- A text written from the front, with its length.
-pub exports_text : {t before after : List ℕ} {r : ℕ} → length t ≤ length before → Writes t before 0 after r → Exports (in_room (length before) t) (Text r) before after
+pub exports_text : {t before after : List ℕ} {r : ℕ} → length t ≤ length before → Writes t before 0 after r → Exports (in_room (length before) t) (Ok r) before after
 exports_text {t} {before} {after} {r} h w =
     rw (room_enough (length before) t h)
-    record { answered = ap (λ (n : ℕ). answer_of (Text n)) (omega (arith, w.next)); buffer = w.stored }
+    record { answered = ap (λ (n : ℕ). answer_of (Ok n)) (omega (arith, w.next)); buffer = w.stored }
 
 -- A text that is too long, with the length needed.
-pub exports_no_room : (t before : List ℕ) {n : ℕ} → n ≡ length t → length before < n → Exports (in_room (length before) t) (NoRoom n) before before
+pub exports_no_room : (t before : List ℕ) {n : ℕ} → n ≡ length t → length before < n → Exports (in_room (length before) t) (Err (NoRoom n)) before before
 exports_no_room t before {n} e h =
     rw (room_short (length before) t (omega arith))
-    record { answered = ap (λ (m : ℕ). answer_of (NoRoom m)) e; buffer = refl }
+    record { answered = ap (λ (m : ℕ). answer_of (Err (NoRoom m))) e; buffer = refl }

@@ -1,8 +1,9 @@
 -- What an export gives: a text, or a refusal with its number and the value returned with it (document 01, "When an export is refused").
 use Rattle.std.specs.Prelude.{◌≡◌, Bool, cond, ◌||◌, List, ℕ, ltb, length}
 use Rattle.std.proofs.lemmas.List.Edits.{sets}
-use Rattle.outcome.specs.declared.Export.{Export}
-use Rattle.outcome.specs.declared.Export.TheVariants.{Text, ImageSize, OptionRange, SpanRange, EmptyImage, AddressRange, SourceText, SpanFault, NoRoom}
+use Rattle.std.specs.Prelude.{Result, Ok, Err}
+use Rattle.outcome.specs.declared.Refusal.{Refusal}
+use Rattle.outcome.specs.declared.Refusal.TheVariants.{ImageSize, OptionRange, SpanRange, EmptyImage, AddressRange, SourceText, SpanFault, NoRoom}
 
 -- A text, or a refusal: its number, and the value returned with it.
 pub data Outcome : Type 0 where
@@ -19,17 +20,21 @@ abbrev pub answer : Outcome → Answer
 answer (text t) = record { number = 0; value = length t }
 answer (refused n v) = record { number = n; value = v }
 
--- The paper's number and value for each case of the enum.
-abbrev pub answer_of : Export → Answer
-answer_of (Text n) = record { number = 0; value = n }
-answer_of ImageSize = record { number = 1; value = 0 }
-answer_of OptionRange = record { number = 2; value = 0 }
-answer_of (SpanRange place) = record { number = 3; value = place }
-answer_of EmptyImage = record { number = 4; value = 0 }
-answer_of AddressRange = record { number = 5; value = 0 }
-answer_of SourceText = record { number = 6; value = 0 }
-answer_of (SpanFault place) = record { number = 7; value = place }
-answer_of (NoRoom needed) = record { number = 8; value = needed }
+-- The paper's number and value for each refusal.
+abbrev pub refusal_of : Refusal → Answer
+refusal_of ImageSize = record { number = 1; value = 0 }
+refusal_of OptionRange = record { number = 2; value = 0 }
+refusal_of (SpanRange place) = record { number = 3; value = place }
+refusal_of EmptyImage = record { number = 4; value = 0 }
+refusal_of AddressRange = record { number = 5; value = 0 }
+refusal_of SourceText = record { number = 6; value = 0 }
+refusal_of (SpanFault place) = record { number = 7; value = place }
+refusal_of (NoRoom needed) = record { number = 8; value = needed }
+
+-- The same for each answer: that of a text is 0 and its length.
+abbrev pub answer_of : Result ℕ Refusal → Answer
+answer_of (Ok n) = record { number = 0; value = n }
+answer_of (Err r) = refusal_of r
 
 -- The buffer behind the call: a text fills its front and the bytes behind it stay; a refusal leaves it as it was.
 abbrev pub left : Outcome → List ℕ → List ℕ
@@ -49,6 +54,6 @@ abbrev pub in_room : ℕ → List ℕ → Outcome
 in_room room t = cond (ltb room (length t)) (refused 8 (length t)) (text t)
 
 -- What every exporter promises: its answer, and every byte of the buffer.
-pub record Exports (o : Outcome) (r : Export) (before after : List ℕ) : Type 0 where
+pub record Exports (o : Outcome) (r : Result ℕ Refusal) (before after : List ℕ) : Type 0 where
   pub answered : answer_of r ≡ answer o
   pub buffer : after ≡ left o before

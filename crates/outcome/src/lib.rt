@@ -2,13 +2,12 @@
 #![tactic(auto)]
 
 ghost use Rattle.std.specs.Prelude.{◌≡◌};
-ghost use Rattle.outcome.specs.Outcome.{answer_of, outside, too_long};
+ghost use Rattle.outcome.specs.Outcome.{answer_of, refusal_of, outside, too_long};
 
-// What an exporter answers: the length of the text, or one of the eight refusals of document 01, in
-// the order of their numbers, with the place or the length that the paper returns with it.
-#[derive(Clone, Copy)]
-pub enum Export {
-    Text(usize),
+// The eight refusals of document 01, in the order of their numbers, with the place or the length
+// that the paper returns with them.
+#[derive(Clone, Copy, PartialEq, Eq)]
+pub enum Refusal {
     ImageSize,
     OptionRange,
     SpanRange(usize),
@@ -19,39 +18,55 @@ pub enum Export {
     NoRoom(usize),
 }
 
-impl Export {
-    // The paper's number of the answer, 0 for a text.
+// What an exporter answers: the length of the text, or a refusal.
+pub type Export = Result<usize, Refusal>;
+
+impl Refusal {
+    // The paper's number.
     pub fn number(self) -> u32
-        ensures { result ≡ (answer_of self).number }
+        ensures { result ≡ (refusal_of self).number }
     {
         match self {
-            Export::Text(_) => 0,
-            Export::ImageSize => 1,
-            Export::OptionRange => 2,
-            Export::SpanRange(_) => 3,
-            Export::EmptyImage => 4,
-            Export::AddressRange => 5,
-            Export::SourceText => 6,
-            Export::SpanFault(_) => 7,
-            Export::NoRoom(_) => 8,
+            Refusal::ImageSize => 1,
+            Refusal::OptionRange => 2,
+            Refusal::SpanRange(_) => 3,
+            Refusal::EmptyImage => 4,
+            Refusal::AddressRange => 5,
+            Refusal::SourceText => 6,
+            Refusal::SpanFault(_) => 7,
+            Refusal::NoRoom(_) => 8,
         }
     }
 
-    // The value that comes with the answer: the length of the text, a place, a length, or 0.
+    // The value that comes with it: a place, a length, or 0.
     pub fn value(self) -> usize
-        ensures { result ≡ (answer_of self).value }
+        ensures { result ≡ (refusal_of self).value }
     {
         match self {
-            Export::Text(length) => length,
-            Export::SpanRange(place) => place,
-            Export::SpanFault(place) => place,
-            Export::NoRoom(needed) => needed,
-            Export::ImageSize => 0,
-            Export::OptionRange => 0,
-            Export::EmptyImage => 0,
-            Export::AddressRange => 0,
-            Export::SourceText => 0,
+            Refusal::SpanRange(place) | Refusal::SpanFault(place) => place,
+            Refusal::NoRoom(needed) => needed,
+            _ => 0,
         }
+    }
+}
+
+// The paper's number of an answer, 0 for a text.
+pub fn number(export: Export) -> u32
+    ensures { result ≡ (answer_of export).number }
+{
+    match export {
+        Ok(_) => 0,
+        Err(refusal) => refusal.number(),
+    }
+}
+
+// The value that comes with an answer: the length of the text, or what comes with the refusal.
+pub fn value(export: Export) -> usize
+    ensures { result ≡ (answer_of export).value }
+{
+    match export {
+        Ok(length) => length,
+        Err(refusal) => refusal.value(),
     }
 }
 
@@ -59,13 +74,7 @@ impl Export {
 pub fn outside(low: usize, high: usize, option: usize) -> bool
     ensures { result ≡ outside low high option }
 {
-    if option < low {
-        return true;
-    }
-    if high < option {
-        return true;
-    }
-    false
+    option < low || high < option
 }
 
 // Whether a string is longer than 256 bytes, which is outside its range.

@@ -1,13 +1,14 @@
 -- Laws of a run of stores and of writers.
 -- Assumes nothing.
 use mathlib.Core.Path.{◌≡◌, refl, sym, ap, ◌∙◌}
-use mathlib.Core.List.{List, [], ◌∷◌, ◌++◌}
+use mathlib.Core.List.{List, [], ◌∷◌, ◌++◌, append_assoc}
 use Prim.Native.Nat.{ℕ, suc, ◌+◌, ◌-◌, ◌<◌, ◌≤◌}
 use native.Mathlib.Nat.{add-zero, add-suc, suc-add}
 use native.Mathlib.Numerals.{add-one}
 use native.Mathlib.Omega.{arith}
-use lib.ListN.{length, set, length-append}
-use lib.Seq.{sets, length-sets, set_comm, set-set}
+use lib.ListN.{length, set, take, drop, length-append}
+use lib.Seq.{sets, sets-eq, length-sets, set_comm, set-set, drop-drop}
+use borrow.Rule.Slice.PartMut.{put_mid}
 use Rattle.output.specs.Writes.{Writes}
 
 -- A run of stores goes on where the last one ended.
@@ -64,3 +65,7 @@ writes_over {l₀} {at = at} {r = r} t a b h p q =
       next = omega (arith, q.next, place, length-append t b);
       stored = q.stored ∙ rw (place, p.stored, ← sets_append t a l₀ at) (sets_over a b (sets l₀ at t) (at + length t) h ∙ sets_append t b l₀ at);
     }
+
+-- A part of the buffer that is filled at once.
+pub part_filled : (t l : List ℕ) (at k : ℕ) (ys : List ℕ) → ys ≡ t → k ≡ length t → at + length t ≤ length l → put_mid at k l ys ≡ sets l at t
+part_filled t l at k ys e h room = rw (e, h, drop-drop (length t) at l, ← append_assoc (take at l) t (drop (at + length t) l)) (sym (sets-eq t l at room))

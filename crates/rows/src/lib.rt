@@ -9,6 +9,7 @@ ghost use Rattle.numbers.specs.Digits.{digits_of};
 ghost use Rattle.rows.specs.declared.ByteDigits.TheVariants.{Hex};
 ghost use Rattle.rows.specs.Rows.{digits_per_byte, byte_digits, bytes_text, rows_text};
 
+use bitvec::Image;
 use numbers::Letters;
 
 // How a byte is written: a digit for each bit, or two hexadecimal digits.
@@ -34,18 +35,17 @@ pub fn put_bytes(
     out: &mut [u8],
     at: usize,
     kind: ByteDigits,
-    bytes: &[u8],
-    len: usize,
+    image: Image,
     first: usize,
     count: usize,
 ) -> usize
-    requires inside { ((first + count) * 8 ≤ len) × (first + count ≤ length bytes.now) }
+    requires inside { ((first + count) * 8 ≤ image.len) × (first + count ≤ length image.bytes.now) }
     requires room { at + count * digits_per_byte kind ≤ length out.old }
-    ensures { Writes (bytes_text kind bytes.now len first count) out.old at out.new result }
+    ensures { Writes (bytes_text kind image.entry.bytes.now image.entry.len first count) out.old at out.new result }
 {
     let mut next = at;
     for j in 0..count {
-        let byte = bytes[first + j];
+        let byte = image.bytes[first + j];
         next = put_digits(out, next, kind, byte);
     }
     next
@@ -56,19 +56,18 @@ fn put_ones(
     out: &mut [u8],
     at: usize,
     kind: ByteDigits,
-    bytes: &[u8],
-    len: usize,
+    image: Image,
     first: usize,
     tail: u8,
     count: usize,
 ) -> usize
-    requires inside { ((first + count) * 8 ≤ len) × (first + count ≤ length bytes.now) }
+    requires inside { ((first + count) * 8 ≤ image.len) × (first + count ≤ length image.bytes.now) }
     requires room { at + count * (digits_per_byte kind + 1) ≤ length out.old }
-    ensures { Writes (rows_text kind bytes.now len first 1 (tail ∷ []) count) out.old at out.new result }
+    ensures { Writes (rows_text kind image.entry.bytes.now image.entry.len first 1 (tail ∷ []) count) out.old at out.new result }
 {
     let mut next = at;
     for k in 0..count {
-        let byte = bytes[first + k];
+        let byte = image.bytes[first + k];
         next = put_digits(out, next, kind, byte);
         next = output::put(out, next, tail);
     }
@@ -80,20 +79,19 @@ fn put_twos(
     out: &mut [u8],
     at: usize,
     kind: ByteDigits,
-    bytes: &[u8],
-    len: usize,
+    image: Image,
     first: usize,
     tail: u8,
     tail2: u8,
     count: usize,
 ) -> usize
-    requires inside { ((first + count) * 8 ≤ len) × (first + count ≤ length bytes.now) }
+    requires inside { ((first + count) * 8 ≤ image.len) × (first + count ≤ length image.bytes.now) }
     requires room { at + count * (digits_per_byte kind + 2) ≤ length out.old }
-    ensures { Writes (rows_text kind bytes.now len first 1 (tail ∷ tail2 ∷ []) count) out.old at out.new result }
+    ensures { Writes (rows_text kind image.entry.bytes.now image.entry.len first 1 (tail ∷ tail2 ∷ []) count) out.old at out.new result }
 {
     let mut next = at;
     for k in 0..count {
-        let byte = bytes[first + k];
+        let byte = image.bytes[first + k];
         next = put_digits(out, next, kind, byte);
         next = output::put(out, next, tail);
         next = output::put(out, next, tail2);
@@ -106,19 +104,18 @@ fn put_any(
     out: &mut [u8],
     at: usize,
     kind: ByteDigits,
-    bytes: &[u8],
-    len: usize,
+    image: Image,
     first: usize,
     tail: &[u8],
     count: usize,
 ) -> usize
-    requires inside { ((first + count) * 8 ≤ len) × (first + count ≤ length bytes.now) }
+    requires inside { ((first + count) * 8 ≤ image.len) × (first + count ≤ length image.bytes.now) }
     requires room { at + count * (digits_per_byte kind + length tail.now) ≤ length out.old }
-    ensures { Writes (rows_text kind bytes.now len first 1 tail.now count) out.old at out.new result }
+    ensures { Writes (rows_text kind image.entry.bytes.now image.entry.len first 1 tail.now count) out.old at out.new result }
 {
     let mut next = at;
     for k in 0..count {
-        let byte = bytes[first + k];
+        let byte = image.bytes[first + k];
         next = put_digits(out, next, kind, byte);
         next = output::put_text(out, next, tail);
     }
@@ -131,26 +128,25 @@ fn put_singles(
     out: &mut [u8],
     at: usize,
     kind: ByteDigits,
-    bytes: &[u8],
-    len: usize,
+    image: Image,
     first: usize,
     tail: &[u8],
     count: usize,
 ) -> usize
-    requires inside { ((first + count) * 8 ≤ len) × (first + count ≤ length bytes.now) }
+    requires inside { ((first + count) * 8 ≤ image.len) × (first + count ≤ length image.bytes.now) }
     requires room { at + count * (digits_per_byte kind + length tail.now) ≤ length out.old }
-    ensures { Writes (rows_text kind bytes.now len first 1 tail.now count) out.old at out.new result }
+    ensures { Writes (rows_text kind image.entry.bytes.now image.entry.len first 1 tail.now count) out.old at out.new result }
 {
     if count < 8 {
-        return put_any(out, at, kind, bytes, len, first, tail, count);
+        return put_any(out, at, kind, image, first, tail, count);
     }
     if tail.len() == 1 {
-        return put_ones(out, at, kind, bytes, len, first, tail[0], count);
+        return put_ones(out, at, kind, image, first, tail[0], count);
     }
     if tail.len() == 2 {
-        return put_twos(out, at, kind, bytes, len, first, tail[0], tail[1], count);
+        return put_twos(out, at, kind, image, first, tail[0], tail[1], count);
     }
-    put_any(out, at, kind, bytes, len, first, tail, count)
+    put_any(out, at, kind, image, first, tail, count)
 }
 
 // Stores `count` rows of `width` bytes each, from byte `first` on, and `tail` behind each.
@@ -158,22 +154,21 @@ fn put_wide(
     out: &mut [u8],
     at: usize,
     kind: ByteDigits,
-    bytes: &[u8],
-    len: usize,
+    image: Image,
     first: usize,
     width: usize,
     tail: &[u8],
     count: usize,
 ) -> usize
-    requires inside { ((first + count * width) * 8 ≤ len) × (first + count * width ≤ length bytes.now) }
+    requires inside { ((first + count * width) * 8 ≤ image.len) × (first + count * width ≤ length image.bytes.now) }
     requires room { at + count * (width * digits_per_byte kind + length tail.now) ≤ length out.old }
-    ensures { Writes (rows_text kind bytes.now len first width tail.now count) out.old at out.new result }
+    ensures { Writes (rows_text kind image.entry.bytes.now image.entry.len first width tail.now count) out.old at out.new result }
 {
     let mut place = first;
     let mut next = at;
     let mut k = 0;
     while k < count {
-        next = put_bytes(out, next, kind, bytes, len, place, width);
+        next = put_bytes(out, next, kind, image, place, width);
         next = output::put_text(out, next, tail);
         place += width;
         k += 1;
@@ -191,20 +186,13 @@ fn put_two_bits(out: &mut [u8], at: usize, first: u8, second: u8) -> usize
 }
 
 // Stores two bytes of the image from byte `place` on.
-fn put_two(
-    out: &mut [u8],
-    at: usize,
-    kind: ByteDigits,
-    bytes: &[u8],
-    len: usize,
-    place: usize,
-) -> usize
-    requires inside { ((place + 2) * 8 ≤ len) × (place + 2 ≤ length bytes.now) }
+fn put_two(out: &mut [u8], at: usize, kind: ByteDigits, image: Image, place: usize) -> usize
+    requires inside { ((place + 2) * 8 ≤ image.len) × (place + 2 ≤ length image.bytes.now) }
     requires room { at + 2 * digits_per_byte kind ≤ length out.old }
-    ensures { Writes (bytes_text kind bytes.now len place 2) out.old at out.new result }
+    ensures { Writes (bytes_text kind image.entry.bytes.now image.entry.len place 2) out.old at out.new result }
 {
-    let first = bytes[place];
-    let second = bytes[place + 1];
+    let first = image.bytes[place];
+    let second = image.bytes[place + 1];
     match kind {
         ByteDigits::Binary => put_two_bits(out, at, first, second),
         ByteDigits::Hex => hex_pair::put_pair(out, at, first, second),
@@ -216,19 +204,18 @@ fn put_pairs(
     out: &mut [u8],
     at: usize,
     kind: ByteDigits,
-    bytes: &[u8],
-    len: usize,
+    image: Image,
     first: usize,
     tail: u8,
     count: usize,
 ) -> usize
-    requires inside { ((first + count * 2) * 8 ≤ len) × (first + count * 2 ≤ length bytes.now) }
+    requires inside { ((first + count * 2) * 8 ≤ image.len) × (first + count * 2 ≤ length image.bytes.now) }
     requires room { at + count * (2 * digits_per_byte kind + 1) ≤ length out.old }
-    ensures { Writes (rows_text kind bytes.now len first 2 (tail ∷ []) count) out.old at out.new result }
+    ensures { Writes (rows_text kind image.entry.bytes.now image.entry.len first 2 (tail ∷ []) count) out.old at out.new result }
 {
     let mut next = at;
     for k in 0..count {
-        next = put_two(out, next, kind, bytes, len, first + k * 2);
+        next = put_two(out, next, kind, image, first + k * 2);
         next = output::put(out, next, tail);
     }
     next
@@ -239,20 +226,19 @@ fn put_fours(
     out: &mut [u8],
     at: usize,
     kind: ByteDigits,
-    bytes: &[u8],
-    len: usize,
+    image: Image,
     first: usize,
     tail: u8,
     count: usize,
 ) -> usize
-    requires inside { ((first + count * 4) * 8 ≤ len) × (first + count * 4 ≤ length bytes.now) }
+    requires inside { ((first + count * 4) * 8 ≤ image.len) × (first + count * 4 ≤ length image.bytes.now) }
     requires room { at + count * (4 * digits_per_byte kind + 1) ≤ length out.old }
-    ensures { Writes (rows_text kind bytes.now len first 4 (tail ∷ []) count) out.old at out.new result }
+    ensures { Writes (rows_text kind image.entry.bytes.now image.entry.len first 4 (tail ∷ []) count) out.old at out.new result }
 {
     let mut next = at;
     for k in 0..count {
-        next = put_two(out, next, kind, bytes, len, first + k * 4);
-        next = put_two(out, next, kind, bytes, len, first + k * 4 + 2);
+        next = put_two(out, next, kind, image, first + k * 4);
+        next = put_two(out, next, kind, image, first + k * 4 + 2);
         next = output::put(out, next, tail);
     }
     next
@@ -263,20 +249,19 @@ fn put_fours(
 pub fn put_by_twos(
     out: &mut [u8],
     at: usize,
-    bytes: &[u8],
-    len: usize,
+    image: Image,
     first: usize,
     tail: u8,
     count: usize,
 ) -> usize
-    requires inside { ((first + count * 2) * 8 ≤ len) × (first + count * 2 ≤ length bytes.now) }
+    requires inside { ((first + count * 2) * 8 ≤ image.len) × (first + count * 2 ≤ length image.bytes.now) }
     requires room { at + count * 6 ≤ length out.old }
-    ensures { Writes (rows_text Hex bytes.now len first 1 (tail ∷ []) (count * 2)) out.old at out.new result }
+    ensures { Writes (rows_text Hex image.entry.bytes.now image.entry.len first 1 (tail ∷ []) (count * 2)) out.old at out.new result }
 {
     let mut next = at;
     for k in 0..count {
         let place = first + k * 2;
-        next = hex_pair::put_parted(out, next, bytes[place], bytes[place + 1], tail);
+        next = hex_pair::put_parted(out, next, image.bytes[place], image.bytes[place + 1], tail);
     }
     next
 }
@@ -288,27 +273,26 @@ pub fn put_rows(
     out: &mut [u8],
     at: usize,
     kind: ByteDigits,
-    bytes: &[u8],
-    len: usize,
+    image: Image,
     first: usize,
     width: usize,
     tail: &[u8],
     count: usize,
 ) -> usize
-    requires inside { ((first + count * width) * 8 ≤ len) × (first + count * width ≤ length bytes.now) }
+    requires inside { ((first + count * width) * 8 ≤ image.len) × (first + count * width ≤ length image.bytes.now) }
     requires room { at + count * (width * digits_per_byte kind + length tail.now) ≤ length out.old }
-    ensures { Writes (rows_text kind bytes.now len first width tail.now count) out.old at out.new result }
+    ensures { Writes (rows_text kind image.entry.bytes.now image.entry.len first width tail.now count) out.old at out.new result }
 {
     if width == 1 {
-        return put_singles(out, at, kind, bytes, len, first, tail, count);
+        return put_singles(out, at, kind, image, first, tail, count);
     }
     if tail.len() == 1 {
         if width == 2 {
-            return put_pairs(out, at, kind, bytes, len, first, tail[0], count);
+            return put_pairs(out, at, kind, image, first, tail[0], count);
         }
         if width == 4 {
-            return put_fours(out, at, kind, bytes, len, first, tail[0], count);
+            return put_fours(out, at, kind, image, first, tail[0], count);
         }
     }
-    put_wide(out, at, kind, bytes, len, first, width, tail, count)
+    put_wide(out, at, kind, image, first, width, tail, count)
 }

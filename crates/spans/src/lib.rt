@@ -143,7 +143,7 @@ pub fn copy_columns(spans: &[Span]) -> Columns
 {
     let mut offsets: [u32; 4097] = [0; 4097];
     let mut sizes: [u32; 4097] = [0; 4097];
-    let count = output::smaller(spans.len(), 4097);
+    let count = spans.len().min(4097);
     let mut i: usize = 0;
     while i < count {
         let span = spans[i];
@@ -189,7 +189,7 @@ pub fn copy_listing_columns(spans: &[Span]) -> ListingColumns
     let mut files: [u8; 4097] = [0; 4097];
     let mut starts: [u64; 4097] = [0; 4097];
     let mut ends: [u64; 4097] = [0; 4097];
-    let count = output::smaller(spans.len(), 4097);
+    let count = spans.len().min(4097);
     let mut i: usize = 0;
     while i < count {
         let span = spans[i];

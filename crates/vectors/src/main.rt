@@ -8,10 +8,11 @@ ghost use Rattle.std.specs.Prelude.{◌+◌, ◌≤◌, ◌<◌, length, ◌≡�
 
 mod records;
 
+use bitvec::Image;
 use format_dump::DumpOptions;
 use format_list::FormatListOptions;
 use listing::FormatAnnotatedOptions;
-use outcome::Export;
+use outcome::{Export, Refusal};
 use std::io;
 use std::io::Read;
 
@@ -269,8 +270,7 @@ fn listing_options(s: &[u8], line: Line) -> FormatAnnotatedOptions {
 
 // The listing of the first `n` rows of a table.
 fn export_rows<'a>(
-    image: &[u8],
-    bits: usize,
+    image: Image,
     table: &[u8; 256],
     n: usize,
     firmware: &'a [u8],
@@ -288,7 +288,6 @@ fn export_rows<'a>(
     let ends = long_column(table, 24, 4);
     annotated::format_annotated(
         image,
-        bits,
         &offsets[..n],
         &sizes[..n],
         &addrs[..n],
@@ -439,7 +438,7 @@ fn agrees_in_rooms(s: &[u8], line: Line, text: &[u8]) -> bool {
     if !agrees_in(s, line, text, n) {
         return false;
     }
-    if !agrees_in(s, line, text, output::free(1, n)) {
+    if !agrees_in(s, line, text, n.saturating_sub(1)) {
         return false;
     }
     agrees_in(s, line, text, 4200)

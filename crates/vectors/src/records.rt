@@ -3,8 +3,9 @@
 ghost use Rattle.std.specs.Prelude.{length, ◌≡◌};
 
 use crate::{column, file_column, long_column};
+use bitvec::Image;
 use listing::FormatAnnotatedOptions;
-use outcome::Export;
+use outcome::{Export, Refusal};
 use spans::Span;
 
 // Room for records. The `ensures` gives the length, which lending the array as a slice needs.
@@ -28,14 +29,13 @@ fn hex_spans(table: &[u8; 256]) -> [Span; 4098] {
 
 // The export of the first `n` rows of a table.
 pub(crate) fn export_intelhex(
-    image: &[u8],
-    bits: usize,
+    image: Image,
     table: &[u8; 256],
     n: usize,
     unit: usize,
     out: &mut [u8],
 ) -> Export {
-    arrays_of_spans::format_intelhex(image, bits, hex_spans(table), n, unit, out)
+    arrays_of_spans::format_intelhex(image, hex_spans(table), n, unit, out)
 }
 
 // The records of a listing's table.
@@ -55,8 +55,7 @@ fn listing_spans(table: &[u8; 256]) -> [Span; 4098] {
 
 // The listing of the first `n` rows of a table.
 pub(crate) fn export_rows<'a>(
-    image: &[u8],
-    bits: usize,
+    image: Image,
     table: &[u8; 256],
     n: usize,
     firmware: &'a [u8],
@@ -66,7 +65,6 @@ pub(crate) fn export_rows<'a>(
 ) -> Export {
     arrays_of_spans::format_annotated(
         image,
-        bits,
         listing_spans(table),
         n,
         firmware,

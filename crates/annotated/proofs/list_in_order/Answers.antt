@@ -48,9 +48,9 @@ returns-then-out-needed c =
     let a = c.args in
     let w = c.column_widths-widths in
     let spans = spans_of a.offsets.now a.sizes.now a.addrs.now a.files.now a.starts.now a.ends.now in
-    let whole = made_length a.options w.result a.image.now a.bits spans a.firmware.now a.protocol.now a.places.now w.ensures.measured c.requires.places.1 in
-    let lines = c.lines_length-lines.ensures.0 a.image.now a.bits in
-    exports_no_room (annotated_text a.options a.image.now a.bits spans a.firmware.now a.protocol.now) _ (omega arith) c.if-out-needed.true
+    let whole = made_length a.options w.result a.image.bytes.now a.image.len spans a.firmware.now a.protocol.now a.places.now w.ensures.measured c.requires.places.1 in
+    let lines = c.lines_length-lines.ensures.0 a.image.bytes.now a.image.len in
+    exports_no_room (annotated_text a.options a.image.bytes.now a.image.len spans a.firmware.now a.protocol.now) _ (omega arith) c.if-out-needed.true
 
 pub put_heading-next-requires : goal.put_heading-next-requires
 put_heading-next-requires c = (c.requires.options, c.column_widths-widths.ensures.small, omega arith)
@@ -60,7 +60,7 @@ put_lines-requires c =
     let a = c.args in
     let w = c.column_widths-widths in
     let below : Each (λ p. p < length a.offsets.now) a.places.now = rw c.requires.places.1 (in_order_below a.offsets.now) in
-    let lines = c.lines_length-lines.ensures.0 a.image.now a.bits in
+    let lines = c.lines_length-lines.ensures.0 a.image.bytes.now a.image.len in
     record {
       options = (c.requires.options, w.ensures.measured);
       lengths = c.requires.lengths;
@@ -74,10 +74,10 @@ returns c =
     let a = c.args in
     let w = c.column_widths-widths in
     let spans = spans_of a.offsets.now a.sizes.now a.addrs.now a.files.now a.starts.now a.ends.now in
-    let whole = made_length a.options w.result a.image.now a.bits spans a.firmware.now a.protocol.now a.places.now w.ensures.measured c.requires.places.1 in
-    let lines = c.lines_length-lines.ensures.0 a.image.now a.bits in
-    let text = annotated_text a.options a.image.now a.bits spans a.firmware.now a.protocol.now in
+    let whole = made_length a.options w.result a.image.bytes.now a.image.len spans a.firmware.now a.protocol.now a.places.now w.ensures.measured c.requires.places.1 in
+    let lines = c.lines_length-lines.ensures.0 a.image.bytes.now a.image.len in
+    let text = annotated_text a.options a.image.bytes.now a.image.len spans a.firmware.now a.protocol.now in
     let enough : length text ≤ length a.out.now = omega arith in
     exports_text {t = text} enough
-    (rw (made a.options w.result a.image.now a.bits spans a.firmware.now a.protocol.now a.places.now w.ensures.measured c.requires.places.1)
+    (rw (made a.options w.result a.image.bytes.now a.image.len spans a.firmware.now a.protocol.now a.places.now w.ensures.measured c.requires.places.1)
     (writes_then c.put_heading-next.ensures c.put_lines.ensures))

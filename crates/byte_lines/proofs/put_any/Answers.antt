@@ -17,44 +17,44 @@ loop-j-init c = (search rules, rw (items_none _ _ _ _ _) (writes_nothing _ _), r
 
 pub put_text-next-requires : goal.put_text-next-requires
 put_text-next-requires c =
-    let room : (let a = c.args in c.loop-j.next + (length a.separator.now + length (byte_in a.radix (byte_at a.image.now a.bits (a.first + c.loop-j.j)))) ≤ length c.loop-j.out) = let l = c.loop-j in
+    let room : (let a = c.args in c.loop-j.next + (length a.separator.now + length (byte_in a.radix (byte_at a.image.bytes.now a.image.len (a.first + c.loop-j.j)))) ≤ length c.loop-j.out) = let l = c.loop-j in
     let a = c.args in
     omega (
       arith,
       l.invariant.1.next,
       l.invariant.2,
-      items_room a.radix a.separator.now a.image.now a.bits a.first l.j a.count c.loop-j-test.true,
-      length-append a.separator.now (byte_in a.radix (byte_at a.image.now a.bits (a.first + l.j))),
+      items_room a.radix a.separator.now a.image.bytes.now a.image.len a.first l.j a.count c.loop-j-test.true,
+      length-append a.separator.now (byte_in a.radix (byte_at a.image.bytes.now a.image.len (a.first + l.j))),
       c.requires.room,
     ) in
     omega (arith, room)
 
 pub put_byte_in-next-requires : goal.put_byte_in-next-requires
 put_byte_in-next-requires c =
-    let byte : (let a = c.args in let place = a.first + c.loop-j.j in get_or a.image.now place 0 < 256 → byte_at a.image.now a.bits place ≡ get_or a.image.now place 0) = λ l. let a = c.args in
-    byte_whole a.image.now a.bits (a.first + c.loop-j.j) (omega (arith, c.loop-j-test.true, c.requires.inside.0)) l in
-    let room : (let a = c.args in c.loop-j.next + (length a.separator.now + length (byte_in a.radix (byte_at a.image.now a.bits (a.first + c.loop-j.j)))) ≤ length c.loop-j.out) = let l = c.loop-j in
+    let byte : (let a = c.args in let place = a.first + c.loop-j.j in get_or a.image.bytes.now place 0 < 256 → byte_at a.image.bytes.now a.image.len place ≡ get_or a.image.bytes.now place 0) = λ l. let a = c.args in
+    byte_whole a.image.bytes.now a.image.len (a.first + c.loop-j.j) (omega (arith, c.loop-j-test.true, c.requires.inside.0)) l in
+    let room : (let a = c.args in c.loop-j.next + (length a.separator.now + length (byte_in a.radix (byte_at a.image.bytes.now a.image.len (a.first + c.loop-j.j)))) ≤ length c.loop-j.out) = let l = c.loop-j in
     let a = c.args in
     omega (
       arith,
       l.invariant.1.next,
       l.invariant.2,
-      items_room a.radix a.separator.now a.image.now a.bits a.first l.j a.count c.loop-j-test.true,
-      length-append a.separator.now (byte_in a.radix (byte_at a.image.now a.bits (a.first + l.j))),
+      items_room a.radix a.separator.now a.image.bytes.now a.image.len a.first l.j a.count c.loop-j-test.true,
+      length-append a.separator.now (byte_in a.radix (byte_at a.image.bytes.now a.image.len (a.first + l.j))),
       c.requires.room,
     ) in
     let place = c.args.first + c.loop-j.j in
-    rw (← byte (c.type_inv.image place).fits)
+    rw (← byte (search rules))
     (omega (arith, room, c.put_text-next.ensures.next, writes_length c.put_text-next.ensures))
 
 pub loop-j-preserved : goal.loop-j-preserved
 loop-j-preserved c =
-    let byte : (let a = c.args in let place = a.first + c.loop-j.j in get_or a.image.now place 0 < 256 → byte_at a.image.now a.bits place ≡ get_or a.image.now place 0) = λ l. let a = c.args in
-    byte_whole a.image.now a.bits (a.first + c.loop-j.j) (omega (arith, c.loop-j-test.true, c.requires.inside.0)) l in
+    let byte : (let a = c.args in let place = a.first + c.loop-j.j in get_or a.image.bytes.now place 0 < 256 → byte_at a.image.bytes.now a.image.len place ≡ get_or a.image.bytes.now place 0) = λ l. let a = c.args in
+    byte_whole a.image.bytes.now a.image.len (a.first + c.loop-j.j) (omega (arith, c.loop-j-test.true, c.requires.inside.0)) l in
     let l = c.loop-j in
     let a = c.args in (
       search rules,
-      rw (items_next a.radix a.separator.now a.image.now a.bits a.first l.j, byte (c.type_inv.image (a.first + l.j)).fits)
+      rw (items_next a.radix a.separator.now a.image.bytes.now a.image.len a.first l.j, byte (search rules))
           (writes_then l.invariant.1 (writes_then c.put_text-next.ensures c.put_byte_in-next.ensures)),
       omega (arith, l.invariant.2, writes_length c.put_text-next.ensures, writes_length c.put_byte_in-next.ensures),
     )

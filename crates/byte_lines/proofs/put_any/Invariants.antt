@@ -6,7 +6,7 @@ use Rattle.byte_lines.specs.Items.{items_text}
 use Rattle.byte_lines.proofs.put_any.Given as goal
 
 abbrev pub invariant-loop-j : goal.invariant-loop-j
-invariant-loop-j l = (l.j ≤ l.count) × Writes (items_text l.radix l.separator l.image l.bits l.first l.j) l.initial.out l.at l.out l.next × (length l.out ≡ length l.initial.out)
+invariant-loop-j l = (l.j ≤ l.count) × Writes (items_text l.radix l.separator l.image.bytes.now l.image.len l.first l.j) l.initial.out l.at l.out l.next × (length l.out ≡ length l.initial.out)
 
 abbrev pub decreases-loop-j : goal.decreases-loop-j
 decreases-loop-j l = l.count - l.j

@@ -8,7 +8,7 @@ use Rattle.byte_lines.proofs.Items.{gap, item}
 use Rattle.byte_lines.proofs.put_list.Given as goal
 
 abbrev pub invariant-loop-k : goal.invariant-loop-k
-invariant-loop-k l = (l.k ≤ l.count) × Writes (joined (gap l.separator (line_start l.start)) (item l.radix l.image l.bits) l.k) l.initial.out l.at l.out l.next × (length l.out ≡ length l.initial.out)
+invariant-loop-k l = (l.k ≤ l.count) × Writes (joined (gap l.separator (line_start l.start)) (item l.radix l.image.bytes.now l.image.len) l.k) l.initial.out l.at l.out l.next × (length l.out ≡ length l.initial.out)
 
 abbrev pub decreases-loop-k : goal.decreases-loop-k
 decreases-loop-k l = l.count - l.k

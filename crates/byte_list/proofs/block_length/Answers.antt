@@ -25,27 +25,27 @@ pub overflow_cast-total : goal.overflow_cast-total
 overflow_cast-total c =
     let small : c.decimal_count.result ≤ 3 = let k = c.loop-k.k in
     let first = c.args.first in
-    omega (arith, c.decimal_count.ensures, lengths.decimal_small _ (c.type_inv.image (first + k)).fits) in
+    omega (arith, c.decimal_count.ensures, lengths.decimal_small _ (search rules)) in
     omega (arith, small)
 
 pub overflow_add-total : goal.overflow_add-total
 overflow_add-total c =
     let small : c.decimal_count.result ≤ 3 = let k = c.loop-k.k in
     let first = c.args.first in
-    omega (arith, c.decimal_count.ensures, lengths.decimal_small _ (c.type_inv.image (first + k)).fits) in
+    omega (arith, c.decimal_count.ensures, lengths.decimal_small _ (search rules)) in
     omega (arith, small)
 
 pub loop-k-preserved : goal.loop-k-preserved
 loop-k-preserved c =
-    let measured : (let a = c.args in length (item a.image.now a.bits a.first c.loop-k.k) ≡ c.decimal_count.result) = let k = c.loop-k.k in
+    let measured : (let a = c.args in length (item a.image.bytes.now a.image.len a.first c.loop-k.k) ≡ c.decimal_count.result) = let k = c.loop-k.k in
     let a = c.args in
     lengths.decimal_length _
-    ∙ rw (byte_whole a.image.now a.bits (a.first + k) (omega arith) (c.type_inv.image (a.first + k)).fits) (sym c.decimal_count.ensures) in
+    ∙ rw (byte_whole a.image.bytes.now a.image.len (a.first + k) (omega arith) (search rules)) (sym c.decimal_count.ensures) in
     let small : c.decimal_count.result ≤ 3 = let k = c.loop-k.k in
     let first = c.args.first in
-    omega (arith, c.decimal_count.ensures, lengths.decimal_small _ (c.type_inv.image (first + k)).fits) in
+    omega (arith, c.decimal_count.ensures, lengths.decimal_small _ (search rules)) in
     let a = c.args in
-    let one = item a.image.now a.bits a.first in (
+    let one = item a.image.bytes.now a.image.len a.first in (
       search rules,
       rw (c.loop-k.invariant.1, ← measured)
           (sym (ap length (pieces_next one c.loop-k.k) ∙ length-append (pieces one c.loop-k.k) (one c.loop-k.k))),

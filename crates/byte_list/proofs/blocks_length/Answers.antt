@@ -25,7 +25,7 @@ overflow_add-total c = omega (arith, c.block_length.ensures.1)
 pub loop-i-preserved : goal.loop-i-preserved
 loop-i-preserved c =
     let a = c.args in
-    let one = item a.image.now a.bits in
+    let one = item a.image.bytes.now a.image.len in
     let before = c.loop-i.i * 64 in
     let place : (c.loop-i.i + 1) * 64 ≡ before + 64 = omega arith in (
       search rules,

@@ -31,13 +31,13 @@ overflow_add-total c =
 
 pub loop-k-preserved : goal.loop-k-preserved
 loop-k-preserved c =
-    let measured : length (item c.args.image.now c.args.bits c.loop-k.k) ≡ c.decimal_count-total.result = lengths.decimal_length _ ∙ rw (← c.read_byte-byte.ensures) (sym c.decimal_count-total.ensures) in
+    let measured : length (item c.args.image.bytes.now c.args.image.len c.loop-k.k) ≡ c.decimal_count-total.result = lengths.decimal_length _ ∙ rw (← c.read_byte-byte.ensures) (sym c.decimal_count-total.ensures) in
     let small : c.decimal_count-total.result ≤ 8 = omega (arith, c.decimal_count-total.ensures, count_small 10 (omega arith) 7 c.read_byte-byte.result (search rules)) in
     let a = c.args in
-    let done = pieces (item a.image.now a.bits) c.loop-k.k in (
+    let done = pieces (item a.image.bytes.now a.image.len) c.loop-k.k in (
       search rules,
       rw (c.loop-k.invariant.1, ← measured)
-          (sym (ap length (pieces_next (item a.image.now a.bits) c.loop-k.k) ∙ length-append done (item a.image.now a.bits c.loop-k.k))),
+          (sym (ap length (pieces_next (item a.image.bytes.now a.image.len) c.loop-k.k) ∙ length-append done (item a.image.bytes.now a.image.len c.loop-k.k))),
       omega (arith, small),
     )
 

@@ -25,22 +25,22 @@ loop-k-init c = (omega arith, c.blocks_length-total.ensures.0, omega (arith, c.b
 pub overflow_add-total : goal.overflow_add-total
 overflow_add-total c =
     let small : c.decimal_count-total.result ≤ 8 = let k = c.loop-k.k in
-    omega (arith, c.decimal_count-total.ensures, count_small 10 (omega arith) 7 _ (c.type_inv.image k).fits) in
+    omega (arith, c.decimal_count-total.ensures, count_small 10 (omega arith) 7 _ (search rules)) in
     omega (arith, small)
 
 pub loop-k-preserved : goal.loop-k-preserved
 loop-k-preserved c =
-    let measured : (let a = c.args in length (item a.image.now a.bits c.loop-k.k) ≡ c.decimal_count-total.result) = let k = c.loop-k.k in
+    let measured : (let a = c.args in length (item a.image.bytes.now a.image.len c.loop-k.k) ≡ c.decimal_count-total.result) = let k = c.loop-k.k in
     let a = c.args in
     lengths.decimal_length _
-    ∙ rw (byte_whole a.image.now a.bits k (omega arith) (c.type_inv.image k).fits) (sym c.decimal_count-total.ensures) in
+    ∙ rw (byte_whole a.image.bytes.now a.image.len k (omega arith) (search rules)) (sym c.decimal_count-total.ensures) in
     let small : c.decimal_count-total.result ≤ 8 = let k = c.loop-k.k in
-    omega (arith, c.decimal_count-total.ensures, count_small 10 (omega arith) 7 _ (c.type_inv.image k).fits) in
+    omega (arith, c.decimal_count-total.ensures, count_small 10 (omega arith) 7 _ (search rules)) in
     let a = c.args in
-    let done = pieces (item a.image.now a.bits) c.loop-k.k in (
+    let done = pieces (item a.image.bytes.now a.image.len) c.loop-k.k in (
       search rules,
       rw (c.loop-k.invariant.1, ← measured)
-          (sym (ap length (pieces_next (item a.image.now a.bits) c.loop-k.k) ∙ length-append done (item a.image.now a.bits c.loop-k.k))),
+          (sym (ap length (pieces_next (item a.image.bytes.now a.image.len) c.loop-k.k) ∙ length-append done (item a.image.bytes.now a.image.len c.loop-k.k))),
       omega (arith, small),
     )
 

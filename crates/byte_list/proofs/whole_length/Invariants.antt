@@ -12,7 +12,7 @@ abbrev item : List ℕ → ℕ → ℕ → List ℕ
 item bytes len k = byte_in 10 (byte_at bytes len k)
 
 abbrev pub invariant-loop-k : goal.invariant-loop-k
-invariant-loop-k l = (l.k ≤ l.count) × (l.total ≡ length (pieces (item l.image l.bits) l.k)) × (l.total ≤ l.k * 8)
+invariant-loop-k l = (l.k ≤ l.count) × (l.total ≡ length (pieces (item l.image.bytes.now l.image.len) l.k)) × (l.total ≤ l.k * 8)
 
 abbrev pub decreases-loop-k : goal.decreases-loop-k
 decreases-loop-k l = l.count - l.k

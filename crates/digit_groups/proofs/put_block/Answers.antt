@@ -18,14 +18,14 @@ overflow_mul-from c =
 pub put_cut-requires : goal.put_cut-requires
 put_cut-requires c =
     let places : (let a = c.args in a.count * a.size ≤ length c.no_digits-digits.result) = omega (arith, c.no_digits-digits.ensures, c.requires.small.4) in
-    let groups : (let a = c.args in cut_text a.every a.between.now a.between2.now c.put_run.new.out a.size a.k a.count ≡ groups_text a.every a.between.now a.between2.now a.bytes.now a.len a.width a.size a.k a.count) = let a = c.args in
-    groups_copied a.every a.between.now a.between2.now a.bytes.now a.len a.width a.size a.k a.count (places) c.put_run.ensures in
+    let groups : (let a = c.args in cut_text a.every a.between.now a.between2.now c.put_run.new.out a.size a.k a.count ≡ groups_text a.every a.between.now a.between2.now a.image.bytes.now a.image.len a.width a.size a.k a.count) = let a = c.args in
+    groups_copied a.every a.between.now a.between2.now a.image.bytes.now a.image.len a.width a.size a.k a.count (places) c.put_run.ensures in
     let small = c.requires.small in
     record { small = (small.3, small.1, omega (arith, places, writes_length c.put_run.ensures), small.5); room = rw (groups) c.requires.room }
 
 pub returns : goal.returns
 returns c =
     let places : (let a = c.args in a.count * a.size ≤ length c.no_digits-digits.result) = omega (arith, c.no_digits-digits.ensures, c.requires.small.4) in
-    let groups : (let a = c.args in cut_text a.every a.between.now a.between2.now c.put_run.new.out a.size a.k a.count ≡ groups_text a.every a.between.now a.between2.now a.bytes.now a.len a.width a.size a.k a.count) = let a = c.args in
-    groups_copied a.every a.between.now a.between2.now a.bytes.now a.len a.width a.size a.k a.count (places) c.put_run.ensures in
+    let groups : (let a = c.args in cut_text a.every a.between.now a.between2.now c.put_run.new.out a.size a.k a.count ≡ groups_text a.every a.between.now a.between2.now a.image.bytes.now a.image.len a.width a.size a.k a.count) = let a = c.args in
+    groups_copied a.every a.between.now a.between2.now a.image.bytes.now a.image.len a.width a.size a.k a.count (places) c.put_run.ensures in
     rw (groups) at c.put_cut.ensures

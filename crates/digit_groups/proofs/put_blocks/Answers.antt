@@ -18,15 +18,15 @@ loop-k-init c = (search rules, rw joined_none (writes_nothing _ _), refl)
 
 pub put_block-next-requires : goal.put_block-next-requires
 put_block-next-requires c =
-    let few : c.smaller-groups.result * c.args.size ≤ 1024 = let fewer = mul-le-mul_right {m = c.smaller-groups.result} {n = c.block_lines-most.result} c.args.size (omega (arith, c.smaller-groups.ensures)) in
+    let few : c.min-groups.result * c.args.size ≤ 1024 = let fewer = mul-le-mul_right {m = c.min-groups.result} {n = c.block_lines-most.result} c.args.size (omega (arith, c.min-groups.ensures)) in
     omega (arith, fewer, c.block_lines-most.ensures.1) in
-    let within : c.loop-k.k + c.smaller-groups.result ≤ c.args.count = omega (arith, c.smaller-groups.ensures, c.loop-k-test.true) in
+    let within : c.loop-k.k + c.min-groups.result ≤ c.args.count = omega (arith, c.min-groups.ensures, c.loop-k-test.true) in
     let l = c.loop-k in
     let a = c.args in
     let small = c.requires.small in
-    let n = c.smaller-groups.result in
-    let before = joined (string_at a.every a.between.now a.between2.now) (group_at a.bytes.now a.len a.width a.size) l.k in
-    let mine = groups_text a.every a.between.now a.between2.now a.bytes.now a.len a.width a.size l.k n in record {
+    let n = c.min-groups.result in
+    let before = joined (string_at a.every a.between.now a.between2.now) (group_at a.image.bytes.now a.image.len a.width a.size) l.k in
+    let mine = groups_text a.every a.between.now a.between2.now a.image.bytes.now a.image.len a.width a.size l.k n in record {
       small = (
         small.0,
         small.1,
@@ -40,30 +40,30 @@ put_block-next-requires c =
         arith,
         l.invariant.1.next,
         l.invariant.2,
-        ap length (joined_groups a.every a.between.now a.between2.now a.bytes.now a.len a.width a.size l.k n),
+        ap length (joined_groups a.every a.between.now a.between2.now a.image.bytes.now a.image.len a.width a.size l.k n),
         length-append before mine,
-        joined_longer a.every a.between.now a.between2.now a.bytes.now a.len a.width a.size (l.k + n) a.count (within),
+        joined_longer a.every a.between.now a.between2.now a.image.bytes.now a.image.len a.width a.size (l.k + n) a.count (within),
         c.requires.room,
       );
     }
 
 pub overflow_add-k : goal.overflow_add-k
 overflow_add-k c =
-    let within : c.loop-k.k + c.smaller-groups.result ≤ c.args.count = omega (arith, c.smaller-groups.ensures, c.loop-k-test.true) in
+    let within : c.loop-k.k + c.min-groups.result ≤ c.args.count = omega (arith, c.min-groups.ensures, c.loop-k-test.true) in
     omega (arith, within)
 
 pub loop-k-smaller : goal.loop-k-smaller
 loop-k-smaller c =
-    omega (arith, c.smaller-groups.ensures, c.loop-k-test.true, c.block_lines-most.ensures.0)
+    omega (arith, c.min-groups.ensures, c.loop-k-test.true, c.block_lines-most.ensures.0)
 
 pub loop-k-preserved : goal.loop-k-preserved
 loop-k-preserved c =
-    let within : c.loop-k.k + c.smaller-groups.result ≤ c.args.count = omega (arith, c.smaller-groups.ensures, c.loop-k-test.true) in
+    let within : c.loop-k.k + c.min-groups.result ≤ c.args.count = omega (arith, c.min-groups.ensures, c.loop-k-test.true) in
     let l = c.loop-k in
     let a = c.args in
-    let n = c.smaller-groups.result in (
+    let n = c.min-groups.result in (
       within,
-      rw (joined_groups a.every a.between.now a.between2.now a.bytes.now a.len a.width a.size l.k n) (writes_then l.invariant.1 c.put_block-next.ensures),
+      rw (joined_groups a.every a.between.now a.between2.now a.image.bytes.now a.image.len a.width a.size l.k n) (writes_then l.invariant.1 c.put_block-next.ensures),
       omega (arith, writes_length c.put_block-next.ensures, l.invariant.2),
     )
 

@@ -61,18 +61,18 @@ overflow_sub-count-in-loop-j c = omega (arith, c.loop-j-test.true)
 
 pub overflow_add-j : goal.overflow_add-j
 overflow_add-j c =
-    let few : (let a = c.args in let j = c.loop-j.j in ((a.k + j) % a.every + c.smaller-more.result < a.every) × (j + (1 + c.smaller-more.result) ≤ a.count)) = let a = c.args in
+    let few : (let a = c.args in let j = c.loop-j.j in ((a.k + j) % a.every + c.min-more.result < a.every) × (j + (1 + c.min-more.result) ≤ a.count)) = let a = c.args in
     let last = mod-lt (a.k + c.loop-j.j) c.requires.small.0 in
     let left = c.loop-j.invariant.3 c.loop-j-test.true in
-    (omega (arith, c.smaller-more.ensures, last, left), omega (arith, c.smaller-more.ensures, c.loop-j-test.true)) in
+    (omega (arith, c.min-more.ensures, last, left), omega (arith, c.min-more.ensures, c.loop-j-test.true)) in
     omega (arith, (few).1)
 
 pub put_headed-next-requires : goal.put_headed-next-requires
 put_headed-next-requires c =
-    let few : (let a = c.args in let j = c.loop-j.j in ((a.k + j) % a.every + c.smaller-more.result < a.every) × (j + (1 + c.smaller-more.result) ≤ a.count)) = let a = c.args in
+    let few : (let a = c.args in let j = c.loop-j.j in ((a.k + j) % a.every + c.min-more.result < a.every) × (j + (1 + c.min-more.result) ≤ a.count)) = let a = c.args in
     let last = mod-lt (a.k + c.loop-j.j) c.requires.small.0 in
     let left = c.loop-j.invariant.3 c.loop-j-test.true in
-    (omega (arith, c.smaller-more.ensures, last, left), omega (arith, c.smaller-more.ensures, c.loop-j-test.true)) in
+    (omega (arith, c.min-more.ensures, last, left), omega (arith, c.min-more.ensures, c.loop-j-test.true)) in
     let room : (n : ℕ) → (let a = c.args in let j = c.loop-j.j in (a.k + j) % a.every + n < a.every → j + (1 + n) ≤ a.count → c.loop-j.next + (length (leading (string_at a.every a.between.now a.between2.now) (a.k + j)) + a.size + n * (length a.between.now + a.size)) ≤ length c.loop-j.out) = λ n l h. let a = c.args in
     let i = c.loop-j.invariant in
     let all = cut_room a.every a.between.now a.between2.now a.s.now a.size a.k c.loop-j.j n a.count l h c.requires.small.2 in
@@ -80,7 +80,7 @@ put_headed-next-requires c =
     let inside : (let a = c.args in c.loop-j.j * a.size + a.size ≤ length a.s.now) = omega (arith, stride c.loop-j.j c.args.count c.args.size c.loop-j-test.true, c.requires.small.2) in
     let a = c.args in
     let j = c.loop-j.j in
-    let n = c.smaller-more.result in
+    let n = c.min-more.result in
     let fewer = mul-le-mul_right {m = j + (1 + n)} {n = a.count} a.size (few).1 in
     let place : (j + 1 + n) * a.size ≡ (j + (1 + n)) * a.size = ap (λ (i : ℕ). i * a.size) (omega arith) in (
       c.requires.small.1,
@@ -101,44 +101,44 @@ overflow_sub-left-in-loop-j c = omega (arith, c.requires.small.0)
 
 pub overflow_add-j-in-loop-j : goal.overflow_add-j-in-loop-j
 overflow_add-j-in-loop-j c =
-    let few : (let a = c.args in let j = c.loop-j.j in ((a.k + j) % a.every + c.smaller-more.result < a.every) × (j + (1 + c.smaller-more.result) ≤ a.count)) = let a = c.args in
+    let few : (let a = c.args in let j = c.loop-j.j in ((a.k + j) % a.every + c.min-more.result < a.every) × (j + (1 + c.min-more.result) ≤ a.count)) = let a = c.args in
     let last = mod-lt (a.k + c.loop-j.j) c.requires.small.0 in
     let left = c.loop-j.invariant.3 c.loop-j-test.true in
-    (omega (arith, c.smaller-more.ensures, last, left), omega (arith, c.smaller-more.ensures, c.loop-j-test.true)) in
+    (omega (arith, c.min-more.ensures, last, left), omega (arith, c.min-more.ensures, c.loop-j-test.true)) in
     omega (arith, (few).1)
 
 pub overflow_add-j-in-loop-j-2 : goal.overflow_add-j-in-loop-j-2
 overflow_add-j-in-loop-j-2 c =
-    let few : (let a = c.args in let j = c.loop-j.j in ((a.k + j) % a.every + c.smaller-more.result < a.every) × (j + (1 + c.smaller-more.result) ≤ a.count)) = let a = c.args in
+    let few : (let a = c.args in let j = c.loop-j.j in ((a.k + j) % a.every + c.min-more.result < a.every) × (j + (1 + c.min-more.result) ≤ a.count)) = let a = c.args in
     let last = mod-lt (a.k + c.loop-j.j) c.requires.small.0 in
     let left = c.loop-j.invariant.3 c.loop-j-test.true in
-    (omega (arith, c.smaller-more.ensures, last, left), omega (arith, c.smaller-more.ensures, c.loop-j-test.true)) in
+    (omega (arith, c.min-more.ensures, last, left), omega (arith, c.min-more.ensures, c.loop-j-test.true)) in
     omega (arith, (few).1)
 
 pub loop-j-smaller : goal.loop-j-smaller
 loop-j-smaller c =
-    let few : (let a = c.args in let j = c.loop-j.j in ((a.k + j) % a.every + c.smaller-more.result < a.every) × (j + (1 + c.smaller-more.result) ≤ a.count)) = let a = c.args in
+    let few : (let a = c.args in let j = c.loop-j.j in ((a.k + j) % a.every + c.min-more.result < a.every) × (j + (1 + c.min-more.result) ≤ a.count)) = let a = c.args in
     let last = mod-lt (a.k + c.loop-j.j) c.requires.small.0 in
     let left = c.loop-j.invariant.3 c.loop-j-test.true in
-    (omega (arith, c.smaller-more.ensures, last, left), omega (arith, c.smaller-more.ensures, c.loop-j-test.true)) in
+    (omega (arith, c.min-more.ensures, last, left), omega (arith, c.min-more.ensures, c.loop-j-test.true)) in
     omega (arith, (few).1)
 
 pub loop-j-preserved : goal.loop-j-preserved
 loop-j-preserved c =
-    let few : (let a = c.args in let j = c.loop-j.j in ((a.k + j) % a.every + c.smaller-more.result < a.every) × (j + (1 + c.smaller-more.result) ≤ a.count)) = let a = c.args in
+    let few : (let a = c.args in let j = c.loop-j.j in ((a.k + j) % a.every + c.min-more.result < a.every) × (j + (1 + c.min-more.result) ≤ a.count)) = let a = c.args in
     let last = mod-lt (a.k + c.loop-j.j) c.requires.small.0 in
     let left = c.loop-j.invariant.3 c.loop-j-test.true in
-    (omega (arith, c.smaller-more.ensures, last, left), omega (arith, c.smaller-more.ensures, c.loop-j-test.true)) in
+    (omega (arith, c.min-more.ensures, last, left), omega (arith, c.min-more.ensures, c.loop-j-test.true)) in
     let l = c.loop-j in
     let a = c.args in
-    let n = c.smaller-more.result in
+    let n = c.min-more.result in
     let place : a.k + (l.j + (1 + n)) ≡ a.k + l.j + (1 + n) = omega arith in (
       (few).1,
       rw (cut_more a.every a.between.now a.between2.now a.s.now a.size a.k l.j n (few).0)
           (writes_then l.invariant.1 (writes_then (writes_then c.put_string-next.ensures c.put_part-next.ensures) c.put_headed-next.ensures)),
       omega (arith, writes_length c.put_string-next.ensures, writes_length c.put_part-next.ensures, writes_length c.put_headed-next.ensures, l.invariant.2),
       (λ h.
-          let all = next_second a.every (a.k + l.j) n c.requires.small.0 (omega (arith, h, c.smaller-more.ensures, l.invariant.3 c.loop-j-test.true)) in
+          let all = next_second a.every (a.k + l.j) n c.requires.small.0 (omega (arith, h, c.min-more.ensures, l.invariant.3 c.loop-j-test.true)) in
           rw place (omega (arith, all))),
     )
 

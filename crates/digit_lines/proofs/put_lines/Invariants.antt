@@ -8,7 +8,7 @@ use Rattle.digit_lines.proofs.put_lines.Given as goal
 abbrev pub invariant-loop-k : goal.invariant-loop-k
 invariant-loop-k l = (l.k ≤ l.count)
     × (l.offset ≡ l.initial.offset + l.k * (l.size * l.width))
-    × Writes (lines_text l.bytes l.len l.width l.initial.offset l.size l.tail l.k) l.initial.out l.at l.out l.next
+    × Writes (lines_text l.image.bytes.now l.image.len l.width l.initial.offset l.size l.tail l.k) l.initial.out l.at l.out l.next
     × (length l.out ≡ length l.initial.out)
 
 abbrev pub decreases-loop-k : goal.decreases-loop-k

@@ -17,11 +17,11 @@ returns-then-whole-first c = (omega arith, λ h. absurd (omega arith))
 
 pub returns : goal.returns
 returns c =
-    let most = c.smaller.ensures in
-    let whole = c.smaller-whole.ensures in
+    let most = c.min.ensures in
+    let whole = c.min-whole.ensures in
     let a = c.args in
-    let rest = c.smaller-whole.result - (a.first + 8) in
-    let words = mul-le-mul_right a.width (le_of_eq_min c.smaller.result (a.count / 8) (rest / a.width) most) in
+    let rest = c.min-whole.result - (a.first + 8) in
+    let words = mul-le-mul_right a.width (le_of_eq_min c.min.result (a.count / 8) (rest / a.width) most) in
     let held = div-mul-le_self rest a.width in
     let left = c.if-whole-first.false in
     (omega (arith, most), λ h. (omega (arith, words, held, whole, left), omega (arith, words, held, whole, left), omega (arith, c.if-width-lt1.false)))

@@ -30,7 +30,7 @@ put_each-requires-2 c =
     let all : words * 8 + (a.count - words * 8) ≡ a.count = omega (arith, c.eights-words.ensures.0) in
     rw (← add-mul (words * 8) (a.count - words * 8) a.width, all) in
     let a = c.args in
-    let digits = run_length a.bytes.now a.len a.width (a.from.0 / 8 * 8 + a.from.0 % 8) (c.eights-words.result * 8) in
+    let digits = run_length a.image.bytes.now a.image.len a.width (a.from.0 / 8 * 8 + a.from.0 % 8) (c.eights-words.result * 8) in
     (c.requires.0, omega (arith, rest, c.requires.1), omega (arith, c.put_words-next.ensures.next, digits, writes_length c.put_words-next.ensures, c.eights-words.ensures.0, c.requires.2))
 
 pub returns : goal.returns
@@ -40,5 +40,5 @@ returns c =
     let words = c.eights-words.result in
     let place : i / 8 * 8 + i % 8 ≡ i = omega arith in
     let all : words * 8 + (a.count - words * 8) ≡ a.count = omega (arith, c.eights-words.ensures.0) in
-    let text = run_append a.bytes.now a.len a.width i (words * 8) (a.count - words * 8) in
+    let text = run_append a.image.bytes.now a.image.len a.width i (words * 8) (a.count - words * 8) in
     rw (rw all at text) (writes_then (rw place at c.put_words-next.ensures) c.put_each-2.ensures)

@@ -20,7 +20,7 @@ loop-k-preserved c =
       search rules,
       search rules,
       omega (arith, written.next, digits_length 1 8 c.read_byte-byte.result),
-      rw (run_append a.bytes.now a.len 1 a.from.0 l.k 8, run_number a.bytes.now a.len 1 (a.from.0 + l.k * 1) 8, ← l.invariant.1, ← c.read_byte-byte.ensures)
+      rw (run_append a.image.bytes.now a.image.len 1 a.from.0 l.k 8, run_number a.image.bytes.now a.image.len 1 (a.from.0 + l.k * 1) 8, ← l.invariant.1, ← c.read_byte-byte.ensures)
           (writes_then l.invariant.3 written),
       omega (arith, writes_length written),
     )
@@ -30,4 +30,4 @@ returns c =
     let l = c.loop-k in
     let a = c.args in
     let all : l.k + (a.count - l.k) ≡ a.count = omega arith in
-    rw (← all, run_append a.bytes.now a.len 1 a.from.0 l.k (a.count - l.k), ← l.invariant.1) (writes_then l.invariant.3 c.put_each.ensures)
+    rw (← all, run_append a.image.bytes.now a.image.len 1 a.from.0 l.k (a.count - l.k), ← l.invariant.1) (writes_then l.invariant.3 c.put_each.ensures)

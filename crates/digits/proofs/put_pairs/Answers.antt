@@ -21,7 +21,7 @@ loop-k-preserved c =
       search rules,
       search rules,
       omega (arith, written.next),
-      rw (run_append a.bytes.now a.len 4 a.from.0 l.k 2, run_number a.bytes.now a.len 4 (a.from.0 + l.k * 4) 2, ← l.invariant.1, ← c.read_byte-byte.ensures, ← byte_digits_lem c.read_byte-byte.result (omega arith))
+      rw (run_append a.image.bytes.now a.image.len 4 a.from.0 l.k 2, run_number a.image.bytes.now a.image.len 4 (a.from.0 + l.k * 4) 2, ← l.invariant.1, ← c.read_byte-byte.ensures, ← byte_digits_lem c.read_byte-byte.result (omega arith))
           (writes_then l.invariant.3 written),
       omega (arith, writes_length written),
     )
@@ -31,4 +31,4 @@ returns c =
     let l = c.loop-k in
     let a = c.args in
     let all : l.k + (a.count - l.k) ≡ a.count = omega arith in
-    rw (← all, run_append a.bytes.now a.len 4 a.from.0 l.k (a.count - l.k), ← l.invariant.1) (writes_then l.invariant.3 c.put_each.ensures)
+    rw (← all, run_append a.image.bytes.now a.image.len 4 a.from.0 l.k (a.count - l.k), ← l.invariant.1) (writes_then l.invariant.3 c.put_each.ensures)

@@ -9,7 +9,7 @@ abbrev pub invariant-loop-k : goal.invariant-loop-k
 invariant-loop-k l = (l.k ≤ l.count)
     × (l.offset ≡ l.initial.offset + l.k * 4)
     × (l.next ≡ l.at + l.k)
-    × Writes (run l.bytes l.len 4 l.initial.offset l.k) l.initial.out l.at l.out l.next
+    × Writes (run l.image.bytes.now l.image.len 4 l.initial.offset l.k) l.initial.out l.at l.out l.next
     × (length l.out ≡ length l.initial.out)
 
 abbrev pub decreases-loop-k : goal.decreases-loop-k

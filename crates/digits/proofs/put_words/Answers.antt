@@ -39,9 +39,9 @@ pub loop-k-preserved : goal.loop-k-preserved
 loop-k-preserved c =
     let l = c.loop-k in
     let a = c.args in
-    let bytes = a.bytes.now in
+    let bytes = a.image.bytes.now in
     let reach = stride l.k a.count a.width c.loop-k-test.true in
-    let word = word_run bytes a.len (8 * length bytes) l.place a.shift a.width c.read_word-word.result c.read_word-word.ensures (omega (arith, c.requires.small.0, c.requires.small.1)) (omega (arith, l.invariant.1, reach, c.requires.inside.0)) (omega (arith, l.invariant.1, reach, c.requires.inside.1)) in
+    let word = word_run bytes a.image.len (8 * length bytes) l.place a.shift a.width c.read_word-word.result c.read_word-word.ensures (omega (arith, c.requires.small.0, c.requires.small.1)) (omega (arith, l.invariant.1, reach, c.requires.inside.0)) (omega (arith, l.invariant.1, reach, c.requires.inside.1)) in
     let next : (l.k + 1) * 8 ≡ l.k * 8 + 8 = omega arith in
     let shifted : l.k * 8 * a.width ≡ l.k * a.width * 8 = rw (mul_assoc l.k 8 a.width, mul_comm 8 a.width, ← mul_assoc l.k a.width 8) in
     let place : a.first * 8 + a.shift + l.k * 8 * a.width ≡ l.place * 8 + a.shift = omega (arith, l.invariant.1, shifted) in
@@ -49,7 +49,7 @@ loop-k-preserved c =
       search rules,
       omega (arith, l.invariant.1, suc-mul l.k a.width),
       omega (arith, l.invariant.2, c.put_eight-next.ensures.next, digits),
-      rw (next, run_append bytes a.len a.width (a.first * 8 + a.shift) (l.k * 8) 8, place, word) (writes_then l.invariant.3 c.put_eight-next.ensures),
+      rw (next, run_append bytes a.image.len a.width (a.first * 8 + a.shift) (l.k * 8) 8, place, word) (writes_then l.invariant.3 c.put_eight-next.ensures),
       omega (arith, writes_length c.put_eight-next.ensures, l.invariant.4),
     )
 

@@ -14,7 +14,7 @@ returns-then-bits-first c = simp (le-ltb _ _ c.if-bits-first.true)
 pub digit_char-requires : goal.digit_char-requires
 digit_char-requires c =
     let a = c.args in
-    omega (arith, c.read_bits-digit.ensures, bits_below a.image.now a.bits a.from.0 a.width 4 c.requires.0)
+    omega (arith, c.read_bits-digit.ensures, bits_below a.image.bytes.now a.image.len a.from.0 a.width 4 c.requires.0)
 
 pub returns : goal.returns
 unfolding digit_at dump_digit

@@ -7,7 +7,7 @@ use Rattle.dump_line.proofs.Lengths.{gap, line_byte}
 use Rattle.dump_line.proofs.put_binary_column.Given as goal
 
 abbrev pub invariant-loop-j : goal.invariant-loop-j
-invariant-loop-j l = (l.j ≤ l.count) × Writes (joined gap (line_byte l.image l.bits 1 l.first) l.j) l.initial.out l.at l.out l.next × (length l.out ≡ length l.initial.out)
+invariant-loop-j l = (l.j ≤ l.count) × Writes (joined gap (line_byte l.image.bytes.now l.image.len 1 l.first) l.j) l.initial.out l.at l.out l.next × (length l.out ≡ length l.initial.out)
 
 abbrev pub decreases-loop-j : goal.decreases-loop-j
 decreases-loop-j l = l.count - l.j

@@ -10,7 +10,7 @@ use Rattle.dump_line.proofs.put_char_column.Given as goal
 abbrev pub invariant-loop-j : goal.invariant-loop-j
 invariant-loop-j l = (l.j ≤ l.count)
     × (l.next ≡ l.at + l.j)
-    × Writes (pieces (λ k. dump_char l.image l.bits ((l.first + k) * 8) ∷ []) l.j) l.initial.out l.at l.out l.next
+    × Writes (pieces (λ k. dump_char l.image.bytes.now l.image.len ((l.first + k) * 8) ∷ []) l.j) l.initial.out l.at l.out l.next
     × (length l.out ≡ length l.initial.out)
 
 abbrev pub decreases-loop-j : goal.decreases-loop-j

@@ -16,21 +16,21 @@ loop-j-init c = (search rules, rw joined_none (writes_nothing _ _), refl)
 
 pub put_between-next-requires : goal.put_between-next-requires
 put_between-next-requires c =
-    let room : (let l = c.loop-j in let a = c.args in l.next + (length (leading gap l.j) + length (line_byte a.image.now a.bits a.width a.first l.j)) ≤ length l.out) = let l = c.loop-j in
+    let room : (let l = c.loop-j in let a = c.args in l.next + (length (leading gap l.j) + length (line_byte a.image.bytes.now a.image.len a.width a.first l.j)) ≤ length l.out) = let l = c.loop-j in
     let a = c.args in
-    omega (arith, l.invariant.1.next, joined_room gap (line_byte a.image.now a.bits a.width a.first) l.j a.count c.loop-j-test.true) in
+    omega (arith, l.invariant.1.next, joined_room gap (line_byte a.image.bytes.now a.image.len a.width a.first) l.j a.count c.loop-j-test.true) in
     (omega arith, omega (arith, room))
 
 pub put_dump_byte-next-requires : goal.put_dump_byte-next-requires
 put_dump_byte-next-requires c =
-    let room : (let l = c.loop-j in let a = c.args in l.next + (length (leading gap l.j) + length (line_byte a.image.now a.bits a.width a.first l.j)) ≤ length l.out) = let l = c.loop-j in
+    let room : (let l = c.loop-j in let a = c.args in l.next + (length (leading gap l.j) + length (line_byte a.image.bytes.now a.image.len a.width a.first l.j)) ≤ length l.out) = let l = c.loop-j in
     let a = c.args in
-    omega (arith, l.invariant.1.next, joined_room gap (line_byte a.image.now a.bits a.width a.first) l.j a.count c.loop-j-test.true) in
+    omega (arith, l.invariant.1.next, joined_room gap (line_byte a.image.bytes.now a.image.len a.width a.first) l.j a.count c.loop-j-test.true) in
     let a = c.args in (
       c.requires.0,
       c.requires.1,
       omega arith,
-      omega (arith, room, c.put_between-next.ensures.next, byte_length a.image.now a.bits a.width ((a.first + c.loop-j.j) * 8)),
+      omega (arith, room, c.put_between-next.ensures.next, byte_length a.image.bytes.now a.image.len a.width ((a.first + c.loop-j.j) * 8)),
     )
 
 pub loop-j-preserved : goal.loop-j-preserved

@@ -15,7 +15,7 @@ abbrev pub invariant-loop-j : goal.invariant-loop-j
 invariant-loop-j l = (l.j ≤ l.count)
     × (l.offset ≡ l.initial.offset + l.j * l.width)
     × (l.next ≡ l.at + l.j)
-    × Writes (pieces (digit l.image l.bits l.width l.initial.offset) l.j) l.initial.out l.at l.out l.next
+    × Writes (pieces (digit l.image.bytes.now l.image.len l.width l.initial.offset) l.j) l.initial.out l.at l.out l.next
     × (length l.out ≡ length l.initial.out)
 
 abbrev pub decreases-loop-j : goal.decreases-loop-j

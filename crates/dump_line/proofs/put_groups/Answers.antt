@@ -22,31 +22,31 @@ loop-j-init c = (c.requires.inside.0, refl, rw joined_none (writes_nothing _ _),
 pub put_group-next-requires : goal.put_group-next-requires
 put_group-next-requires c =
     let row : ℕ → List ℕ = λ n. let a = c.args in
-    rows_text Hex a.image.now a.bits (a.first + c.loop-j.j) 1 (ascii " ") n in
+    rows_text Hex a.image.bytes.now a.image.len (a.first + c.loop-j.j) 1 (ascii " ") n in
     let room : c.loop-j.next + (length (row 4) + 1) ≤ length c.loop-j.out = let a = c.args in
     omega
-    (arith, c.loop-j.invariant.2.next, group_room Hex a.image.now a.bits a.first c.loop-j.j a.count c.loop-j.invariant.1 (omega arith) (omega (arith, c.requires.inside.1)), c.requires.room) in
+    (arith, c.loop-j.invariant.2.next, group_room Hex a.image.bytes.now a.image.len a.first c.loop-j.j a.count c.loop-j.invariant.1 (omega arith) (omega (arith, c.requires.inside.1)), c.requires.room) in
     let a = c.args in
-    let long = rows_length Hex a.image.now a.bits (a.first + c.loop-j.j) 1 (ascii " ") 4 in
+    let long = rows_length Hex a.image.bytes.now a.image.len (a.first + c.loop-j.j) 1 (ascii " ") 4 in
     record { inside = (omega (arith, c.requires.inside.1), omega (arith, c.requires.inside.2)); room = omega (arith, room, long) }
 
 pub put-next-requires : goal.put-next-requires
 put-next-requires c =
     let row : ℕ → List ℕ = λ n. let a = c.args in
-    rows_text Hex a.image.now a.bits (a.first + c.loop-j.j) 1 (ascii " ") n in
+    rows_text Hex a.image.bytes.now a.image.len (a.first + c.loop-j.j) 1 (ascii " ") n in
     let room : c.loop-j.next + (length (row 4) + 1) ≤ length c.loop-j.out = let a = c.args in
     omega
-    (arith, c.loop-j.invariant.2.next, group_room Hex a.image.now a.bits a.first c.loop-j.j a.count c.loop-j.invariant.1 (omega arith) (omega (arith, c.requires.inside.1)), c.requires.room) in
+    (arith, c.loop-j.invariant.2.next, group_room Hex a.image.bytes.now a.image.len a.first c.loop-j.j a.count c.loop-j.invariant.1 (omega arith) (omega (arith, c.requires.inside.1)), c.requires.room) in
     omega (arith, room, c.put_group-next.ensures.next, writes_length {t = row 4} c.put_group-next.ensures)
 
 pub loop-j-preserved : goal.loop-j-preserved
 loop-j-preserved c =
     let row : ℕ → List ℕ = λ n. let a = c.args in
-    rows_text Hex a.image.now a.bits (a.first + c.loop-j.j) 1 (ascii " ") n in
+    rows_text Hex a.image.bytes.now a.image.len (a.first + c.loop-j.j) 1 (ascii " ") n in
     let a = c.args in (
       omega arith,
       omega arith,
-      rw (group_next Hex a.image.now a.bits a.first c.loop-j.j c.loop-j.invariant.1 (omega (arith, c.requires.inside.1)))
+      rw (group_next Hex a.image.bytes.now a.image.len a.first c.loop-j.j c.loop-j.invariant.1 (omega (arith, c.requires.inside.1)))
           (writes_then c.loop-j.invariant.2 (writes_then {a = row 4} c.put_group-next.ensures c.put-next.ensures)),
       omega (arith, writes_length {t = row 4} c.put_group-next.ensures, writes_length c.put-next.ensures),
     )
@@ -54,18 +54,18 @@ loop-j-preserved c =
 pub put_group-requires : goal.put_group-requires
 put_group-requires c =
     let row : ℕ → List ℕ = λ n. let a = c.args in
-    rows_text Hex a.image.now a.bits (a.first + c.loop-j.j) 1 (ascii " ") n in
+    rows_text Hex a.image.bytes.now a.image.len (a.first + c.loop-j.j) 1 (ascii " ") n in
     let a = c.args in
     let j = c.loop-j.j in
-    let long = rows_length Hex a.image.now a.bits (a.first + j) 1 (ascii " ") (a.count - j) in
-    let last = ap length (group_last Hex a.image.now a.bits a.first j a.count c.loop-j.invariant.1 (omega arith) (omega arith) c.requires.inside.1) in
-    let parts = length-append (before Hex a.image.now a.bits a.first j) (row (a.count - j)) in
+    let long = rows_length Hex a.image.bytes.now a.image.len (a.first + j) 1 (ascii " ") (a.count - j) in
+    let last = ap length (group_last Hex a.image.bytes.now a.image.len a.first j a.count c.loop-j.invariant.1 (omega arith) (omega arith) c.requires.inside.1) in
+    let parts = length-append (before Hex a.image.bytes.now a.image.len a.first j) (row (a.count - j)) in
     record { inside = (omega (arith, c.requires.inside.1), omega (arith, c.requires.inside.2)); room = omega (arith, long, last, parts, c.loop-j.invariant.2.next, c.requires.room) }
 
 pub returns : goal.returns
 returns c =
     let row : ℕ → List ℕ = λ n. let a = c.args in
-    rows_text Hex a.image.now a.bits (a.first + c.loop-j.j) 1 (ascii " ") n in
+    rows_text Hex a.image.bytes.now a.image.len (a.first + c.loop-j.j) 1 (ascii " ") n in
     let a = c.args in
-    rw (group_last Hex a.image.now a.bits a.first c.loop-j.j a.count c.loop-j.invariant.1 (omega arith) (omega arith) c.requires.inside.1)
+    rw (group_last Hex a.image.bytes.now a.image.len a.first c.loop-j.j a.count c.loop-j.invariant.1 (omega arith) (omega arith) c.requires.inside.1)
     (writes_then {b = row (a.count - c.loop-j.j)} c.loop-j.invariant.2 c.put_group.ensures)

@@ -9,7 +9,7 @@ use Rattle.dump_line.proofs.put_groups.Given as goal
 abbrev pub invariant-loop-j : goal.invariant-loop-j
 invariant-loop-j l = (l.j < l.count)
     × (l.j % 4 ≡ 0)
-    × Writes (before Hex l.image l.bits l.first l.j) l.initial.out l.at l.out l.next
+    × Writes (before Hex l.image.bytes.now l.image.len l.first l.j) l.initial.out l.at l.out l.next
     × (length l.out ≡ length l.initial.out)
 
 abbrev pub decreases-loop-j : goal.decreases-loop-j

@@ -15,7 +15,7 @@ loop-j-init c = (search rules, search rules, rw pieces_none (writes_nothing _ _)
 pub loop-j-preserved : goal.loop-j-preserved
 loop-j-preserved c =
     let a = c.args in
-    let char = whole_char a.image.now a.bits (a.first + c.loop-j.j) (omega (arith, c.requires.inside.0)) (c.type_inv.image (a.first + c.loop-j.j)).fits in (
+    let char = whole_char a.image.bytes.now a.image.len (a.first + c.loop-j.j) (omega (arith, c.requires.inside.0)) (search rules) in (
       search rules,
       search rules,
       rw (pieces_next, char, ← c.printed.ensures) (writes_then c.loop-j.invariant.2 c.put-next.ensures),

@@ -13,7 +13,7 @@ use Rattle.format_c_array.proofs.c_array_length.Goals as goal
 pub returns : goal.returns
 returns c =
     let a = c.args in
-    let comment = address_length a.bits 0 (omega arith) in
-    let list = c.list_length.ensures.0 (ascii ", ") (line_start (Comment (address_width a.bits))) refl (λ k h.
-    start_length (address_width a.bits) k ∙ omega (arith, c.requires.2, address_length a.bits k (omega (arith, c.requires.1)))) in
-    omega (arith, c.requires.2, c_array_parts a.radix a.image.now a.bits)
+    let comment = address_length a.image.len 0 (omega arith) in
+    let list = c.list_length.ensures.0 (ascii ", ") (line_start (Comment (address_width a.image.len))) refl (λ k h.
+    start_length (address_width a.image.len) k ∙ omega (arith, c.requires.2, address_length a.image.len k (omega (arith, c.requires.1)))) in
+    omega (arith, c.requires.2, c_array_parts a.radix a.image.bytes.now a.image.len)

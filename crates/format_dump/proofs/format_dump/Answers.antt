@@ -30,7 +30,7 @@ pub overflow_mul-needed : goal.overflow_mul-needed
 overflow_mul-needed c =
     let o = c.args.options in
     let range = in_range_lem o (cc) in
-    let few = rw (← c.dump_lines-lines.ensures) at (lines_few c.args.bits o.bytes_per_line range.2 range.3 (size_good c.args.image.now c.args.bits (cc)).0) in
+    let few = rw (← c.dump_lines-lines.ensures) at (lines_few c.args.image.len o.bytes_per_line range.2 range.3 (size_good c.args.image.bytes.now c.args.image.len (cc)).0) in
     let line = line_small o.digit_bits o.bytes_per_line c.digit_count-address.result c.line_length.result range.3 (omega arith) (omega arith) c.line_length.ensures in
     omega (arith, mul-le-mul {n₂ = 2 ^ 22} {m₂ = 1000} few.1 line)
 
@@ -38,17 +38,17 @@ pub returns-then-out-needed : goal.returns-then-out-needed
 unfolding dump_outcome
 returns-then-out-needed c =
     let o = c.args.options in
-    let measured = text_measured c.args.image.now c.args.bits o.digit_bits o.bytes_per_line _ _ _ c.dump_lines-lines.ensures c.digit_count-address.ensures c.line_length.ensures in
+    let measured = text_measured c.args.image.bytes.now c.args.image.len o.digit_bits o.bytes_per_line _ _ _ c.dump_lines-lines.ensures c.digit_count-address.ensures c.line_length.ensures in
     grind (arith, common_steps, exports_no_room)
 
 pub write_dump-requires-clause-room : goal.write_dump-requires-clause-room
 write_dump-requires-clause-room c =
     let o = c.args.options in
-    omega (arith, text_measured c.args.image.now c.args.bits o.digit_bits o.bytes_per_line _ _ _ c.dump_lines-lines.ensures c.digit_count-address.ensures c.line_length.ensures)
+    omega (arith, text_measured c.args.image.bytes.now c.args.image.len o.digit_bits o.bytes_per_line _ _ _ c.dump_lines-lines.ensures c.digit_count-address.ensures c.line_length.ensures)
 
 pub returns : goal.returns
 unfolding dump_outcome
 returns c =
     let o = c.args.options in
-    let measured = text_measured c.args.image.now c.args.bits o.digit_bits o.bytes_per_line _ _ _ c.dump_lines-lines.ensures c.digit_count-address.ensures c.line_length.ensures in
+    let measured = text_measured c.args.image.bytes.now c.args.image.len o.digit_bits o.bytes_per_line _ _ _ c.dump_lines-lines.ensures c.digit_count-address.ensures c.line_length.ensures in
     grind (arith, common_steps, exports_text)

@@ -29,16 +29,16 @@ pub put_line-next-requires : goal.put_line-next-requires
 put_line-next-requires c =
     let low : c.loop-k.first + c.args.count < 2 ^ 32 = let l = c.loop-k in
     let a = c.args in
-    let reach = rw (← c.requires.lines.0) at (lines_reach a.bits a.count c.requires.size.2) in
+    let reach = rw (← c.requires.lines.0) at (lines_reach a.image.len a.count c.requires.size.2) in
     omega (arith, stride l.k a.lines a.count c.loop-k-test.true) in
     let address_fits : digit_count 16 c.loop-k.first ≤ c.args.address = let l = c.loop-k in
     let a = c.args in
     rw (c.requires.lines.1, l.invariant.1) (count_rises 16 (omega arith) (l.k * a.count) ((a.lines - 1) * a.count) (mul-le-mul_right a.count (omega arith))) in
-    let whole : (let a = c.args in dump_text a.image.now a.bits a.width a.count ≡ pieces (line a.image.now a.bits a.width a.count a.address) a.lines) = let a = c.args in
-    text_lines a.image.now a.bits a.width a.count a.lines a.address c.requires.lines.0 c.requires.lines.1 in
-    let room : (let l = c.loop-k in let a = c.args in l.next + length (line a.image.now a.bits a.width a.count a.address l.k) ≤ length l.out) = let l = c.loop-k in
+    let whole : (let a = c.args in dump_text a.image.bytes.now a.image.len a.width a.count ≡ pieces (line a.image.bytes.now a.image.len a.width a.count a.address) a.lines) = let a = c.args in
+    text_lines a.image.bytes.now a.image.len a.width a.count a.lines a.address c.requires.lines.0 c.requires.lines.1 in
+    let room : (let l = c.loop-k in let a = c.args in l.next + length (line a.image.bytes.now a.image.len a.width a.count a.address l.k) ≤ length l.out) = let l = c.loop-k in
     let a = c.args in
-    let one = pieces_room (line a.image.now a.bits a.width a.count a.address) l.k a.lines c.loop-k-test.true in
+    let one = pieces_room (line a.image.bytes.now a.image.len a.width a.count a.address) l.k a.lines c.loop-k-test.true in
     omega (arith, l.invariant.2.next, ap length (whole)) in
     let size = c.requires.size in
     record { size = (size.0, size.1, omega (arith, low), size.2, size.3, size.5, address_fits); room = rw c.loop-k.invariant.1 (room) }
@@ -47,7 +47,7 @@ pub overflow_add-first : goal.overflow_add-first
 overflow_add-first c =
     let low : c.loop-k.first + c.args.count < 2 ^ 32 = let l = c.loop-k in
     let a = c.args in
-    let reach = rw (← c.requires.lines.0) at (lines_reach a.bits a.count c.requires.size.2) in
+    let reach = rw (← c.requires.lines.0) at (lines_reach a.image.len a.count c.requires.size.2) in
     omega (arith, stride l.k a.lines a.count c.loop-k-test.true) in
     omega (arith, low)
 
@@ -62,7 +62,7 @@ loop-k-preserved c =
 
 pub returns : goal.returns
 returns c =
-    let whole : (let a = c.args in dump_text a.image.now a.bits a.width a.count ≡ pieces (line a.image.now a.bits a.width a.count a.address) a.lines) = let a = c.args in
-    text_lines a.image.now a.bits a.width a.count a.lines a.address c.requires.lines.0 c.requires.lines.1 in
+    let whole : (let a = c.args in dump_text a.image.bytes.now a.image.len a.width a.count ≡ pieces (line a.image.bytes.now a.image.len a.width a.count a.address) a.lines) = let a = c.args in
+    text_lines a.image.bytes.now a.image.len a.width a.count a.lines a.address c.requires.lines.0 c.requires.lines.1 in
     let done : c.loop-k.k ≡ c.args.lines = omega arith in
     rw (whole) (rw done at c.loop-k.invariant.2)

@@ -14,7 +14,7 @@ line bytes len w n address k = dump_line bytes len w n address (k * n)
 abbrev pub invariant-loop-k : goal.invariant-loop-k
 invariant-loop-k l = (l.k ≤ l.lines)
     × (l.first ≡ l.k * l.count)
-    × Writes (pieces (line l.image l.bits l.width l.count l.address) l.k) l.initial.out 0 l.out l.next
+    × Writes (pieces (line l.image.bytes.now l.image.len l.width l.count l.address) l.k) l.initial.out 0 l.out l.next
     × (length l.out ≡ length l.initial.out)
 
 abbrev pub decreases-loop-k : goal.decreases-loop-k

@@ -22,7 +22,7 @@ returns-then-bad_size c = simp (sym c.bad_size.ensures ∙ c.if-bad_size.true) r
 pub returns-then-bad_list : goal.returns-then-bad_list
 unfolding list_outcome
 returns-then-bad_list c =
-    let sized : bad_size c.args.image.now c.args.bits ≡ false = sym c.bad_size.ensures ∙ c.if-bad_size.false in
+    let sized : bad_size c.args.image.bytes.now c.args.image.len ≡ false = sym c.bad_size.ensures ∙ c.if-bad_size.false in
     simp (sized, sym c.bad_list.ensures ∙ c.if-bad_list.true) record { answered = refl; buffer = refl }
 
 pub overflow_mul-options : goal.overflow_mul-options
@@ -51,9 +51,9 @@ parts-count-requires c =
       mul-le-mul {n₂ = 64} {m₂ = 5} r.digits.1 (omega (arith, base_small o.base)),
       ap (λ (w : ℕ). o.digits_per_group * w) e,
     ) in
-    let sized : bad_size c.args.image.now c.args.bits ≡ false = sym c.bad_size.ensures ∙ c.if-bad_size.false in
-    let size : c.args.bits ≤ 16777216 = let a = c.args in
-    (size_good a.image.now a.bits (sized)).0 in
+    let sized : bad_size c.args.image.bytes.now c.args.image.len ≡ false = sym c.bad_size.ensures ∙ c.if-bad_size.false in
+    let size : c.args.image.len ≤ 16777216 = let a = c.args in
+    (size_good a.image.bytes.now a.image.len (sized)).0 in
     let g = group in
     (g.0, omega (arith, size, g.1))
 
@@ -69,13 +69,13 @@ strings_length-strings-requires c =
       mul-le-mul {n₂ = 64} {m₂ = 5} r.digits.1 (omega (arith, base_small o.base)),
       ap (λ (w : ℕ). o.digits_per_group * w) e,
     ) in
-    let groups : c.parts-count.result ≡ ceil_div c.args.bits (group_bits c.args.options) = rw (← (group).2) c.parts-count.ensures in
-    let sized : bad_size c.args.image.now c.args.bits ≡ false = sym c.bad_size.ensures ∙ c.if-bad_size.false in
-    let size : c.args.bits ≤ 16777216 = let a = c.args in
-    (size_good a.image.now a.bits (sized)).0 in
+    let groups : c.parts-count.result ≡ ceil_div c.args.image.len (group_bits c.args.options) = rw (← (group).2) c.parts-count.ensures in
+    let sized : bad_size c.args.image.bytes.now c.args.image.len ≡ false = sym c.bad_size.ensures ∙ c.if-bad_size.false in
+    let size : c.args.image.len ≤ 16777216 = let a = c.args in
+    (size_good a.image.bytes.now a.image.len (sized)).0 in
     let few : c.parts-count.result < 2 ^ 25 = let a = c.args in
     let g = group in
-    rw (groups) (omega (arith, size, ceil_most a.bits (group_bits a.options) (omega arith))) in
+    rw (groups) (omega (arith, size, ceil_most a.image.len (group_bits a.options) (omega arith))) in
     let r = good in
     (omega (arith, few), r.strings.2, r.strings.3, r.place)
 
@@ -91,13 +91,13 @@ overflow_mul-needed c =
       mul-le-mul {n₂ = 64} {m₂ = 5} r.digits.1 (omega (arith, base_small o.base)),
       ap (λ (w : ℕ). o.digits_per_group * w) e,
     ) in
-    let groups : c.parts-count.result ≡ ceil_div c.args.bits (group_bits c.args.options) = rw (← (group).2) c.parts-count.ensures in
-    let sized : bad_size c.args.image.now c.args.bits ≡ false = sym c.bad_size.ensures ∙ c.if-bad_size.false in
-    let size : c.args.bits ≤ 16777216 = let a = c.args in
-    (size_good a.image.now a.bits (sized)).0 in
+    let groups : c.parts-count.result ≡ ceil_div c.args.image.len (group_bits c.args.options) = rw (← (group).2) c.parts-count.ensures in
+    let sized : bad_size c.args.image.bytes.now c.args.image.len ≡ false = sym c.bad_size.ensures ∙ c.if-bad_size.false in
+    let size : c.args.image.len ≤ 16777216 = let a = c.args in
+    (size_good a.image.bytes.now a.image.len (sized)).0 in
     let few : c.parts-count.result < 2 ^ 25 = let a = c.args in
     let g = group in
-    rw (groups) (omega (arith, size, ceil_most a.bits (group_bits a.options) (omega arith))) in
+    rw (groups) (omega (arith, size, ceil_most a.image.len (group_bits a.options) (omega arith))) in
     let digits : c.parts-count.result * c.args.options.digits_per_group ≤ 2 ^ 25 * 64 = mul-le-mul {n₂ = 2 ^ 25} {m₂ = 64} (omega (arith, few)) (good).digits.1 in
     omega (arith, digits)
 
@@ -113,13 +113,13 @@ overflow_add-needed c =
       mul-le-mul {n₂ = 64} {m₂ = 5} r.digits.1 (omega (arith, base_small o.base)),
       ap (λ (w : ℕ). o.digits_per_group * w) e,
     ) in
-    let groups : c.parts-count.result ≡ ceil_div c.args.bits (group_bits c.args.options) = rw (← (group).2) c.parts-count.ensures in
-    let sized : bad_size c.args.image.now c.args.bits ≡ false = sym c.bad_size.ensures ∙ c.if-bad_size.false in
-    let size : c.args.bits ≤ 16777216 = let a = c.args in
-    (size_good a.image.now a.bits (sized)).0 in
+    let groups : c.parts-count.result ≡ ceil_div c.args.image.len (group_bits c.args.options) = rw (← (group).2) c.parts-count.ensures in
+    let sized : bad_size c.args.image.bytes.now c.args.image.len ≡ false = sym c.bad_size.ensures ∙ c.if-bad_size.false in
+    let size : c.args.image.len ≤ 16777216 = let a = c.args in
+    (size_good a.image.bytes.now a.image.len (sized)).0 in
     let few : c.parts-count.result < 2 ^ 25 = let a = c.args in
     let g = group in
-    rw (groups) (omega (arith, size, ceil_most a.bits (group_bits a.options) (omega arith))) in
+    rw (groups) (omega (arith, size, ceil_most a.image.len (group_bits a.options) (omega arith))) in
     let digits : c.parts-count.result * c.args.options.digits_per_group ≤ 2 ^ 25 * 64 = mul-le-mul {n₂ = 2 ^ 25} {m₂ = 64} (omega (arith, few)) (good).digits.1 in
     omega (arith, digits, c.strings_length-strings.ensures.1)
 
@@ -135,13 +135,13 @@ overflow_add-needed-2 c =
       mul-le-mul {n₂ = 64} {m₂ = 5} r.digits.1 (omega (arith, base_small o.base)),
       ap (λ (w : ℕ). o.digits_per_group * w) e,
     ) in
-    let groups : c.parts-count.result ≡ ceil_div c.args.bits (group_bits c.args.options) = rw (← (group).2) c.parts-count.ensures in
-    let sized : bad_size c.args.image.now c.args.bits ≡ false = sym c.bad_size.ensures ∙ c.if-bad_size.false in
-    let size : c.args.bits ≤ 16777216 = let a = c.args in
-    (size_good a.image.now a.bits (sized)).0 in
+    let groups : c.parts-count.result ≡ ceil_div c.args.image.len (group_bits c.args.options) = rw (← (group).2) c.parts-count.ensures in
+    let sized : bad_size c.args.image.bytes.now c.args.image.len ≡ false = sym c.bad_size.ensures ∙ c.if-bad_size.false in
+    let size : c.args.image.len ≤ 16777216 = let a = c.args in
+    (size_good a.image.bytes.now a.image.len (sized)).0 in
     let few : c.parts-count.result < 2 ^ 25 = let a = c.args in
     let g = group in
-    rw (groups) (omega (arith, size, ceil_most a.bits (group_bits a.options) (omega arith))) in
+    rw (groups) (omega (arith, size, ceil_most a.image.len (group_bits a.options) (omega arith))) in
     let digits : c.parts-count.result * c.args.options.digits_per_group ≤ 2 ^ 25 * 64 = mul-le-mul {n₂ = 2 ^ 25} {m₂ = 64} (omega (arith, few)) (good).digits.1 in
     omega (arith, digits, c.strings_length-strings.ensures.1, (good).strings.0)
 
@@ -157,13 +157,13 @@ overflow_add-needed-3 c =
       mul-le-mul {n₂ = 64} {m₂ = 5} r.digits.1 (omega (arith, base_small o.base)),
       ap (λ (w : ℕ). o.digits_per_group * w) e,
     ) in
-    let groups : c.parts-count.result ≡ ceil_div c.args.bits (group_bits c.args.options) = rw (← (group).2) c.parts-count.ensures in
-    let sized : bad_size c.args.image.now c.args.bits ≡ false = sym c.bad_size.ensures ∙ c.if-bad_size.false in
-    let size : c.args.bits ≤ 16777216 = let a = c.args in
-    (size_good a.image.now a.bits (sized)).0 in
+    let groups : c.parts-count.result ≡ ceil_div c.args.image.len (group_bits c.args.options) = rw (← (group).2) c.parts-count.ensures in
+    let sized : bad_size c.args.image.bytes.now c.args.image.len ≡ false = sym c.bad_size.ensures ∙ c.if-bad_size.false in
+    let size : c.args.image.len ≤ 16777216 = let a = c.args in
+    (size_good a.image.bytes.now a.image.len (sized)).0 in
     let few : c.parts-count.result < 2 ^ 25 = let a = c.args in
     let g = group in
-    rw (groups) (omega (arith, size, ceil_most a.bits (group_bits a.options) (omega arith))) in
+    rw (groups) (omega (arith, size, ceil_most a.image.len (group_bits a.options) (omega arith))) in
     let digits : c.parts-count.result * c.args.options.digits_per_group ≤ 2 ^ 25 * 64 = mul-le-mul {n₂ = 2 ^ 25} {m₂ = 64} (omega (arith, few)) (good).digits.1 in
     let r = good in
     omega (arith, digits, c.strings_length-strings.ensures.1, r.strings.0, r.strings.1)
@@ -171,7 +171,7 @@ overflow_add-needed-3 c =
 pub returns-then-out-needed : goal.returns-then-out-needed
 unfolding list_outcome
 returns-then-out-needed c =
-    let sized : bad_size c.args.image.now c.args.bits ≡ false = sym c.bad_size.ensures ∙ c.if-bad_size.false in
+    let sized : bad_size c.args.image.bytes.now c.args.image.len ≡ false = sym c.bad_size.ensures ∙ c.if-bad_size.false in
     let ranged : (let a = c.args in bad_list a.options a.before.now a.after.now a.between.now a.between2.now ≡ false) = sym c.bad_list.ensures ∙ c.if-bad_list.false in
     let good : (let a = c.args in Ranges a.options a.before.now a.after.now a.between.now a.between2.now) = let a = c.args in
     ranges a.options a.before.now a.after.now a.between.now a.between2.now (ranged) in
@@ -182,12 +182,12 @@ returns-then-out-needed c =
       mul-le-mul {n₂ = 64} {m₂ = 5} r.digits.1 (omega (arith, base_small o.base)),
       ap (λ (w : ℕ). o.digits_per_group * w) e,
     ) in
-    let groups : c.parts-count.result ≡ ceil_div c.args.bits (group_bits c.args.options) = rw (← (group).2) c.parts-count.ensures in
-    let measured : (let a = c.args in length a.before.now + (c.strings_length-strings.result + c.parts-count.result * a.options.digits_per_group) + length a.after.now ≡ length (list_text a.options a.before.now a.after.now a.between.now a.between2.now a.image.now a.bits)) = let a = c.args in
+    let groups : c.parts-count.result ≡ ceil_div c.args.image.len (group_bits c.args.options) = rw (← (group).2) c.parts-count.ensures in
+    let measured : (let a = c.args in length a.before.now + (c.strings_length-strings.result + c.parts-count.result * a.options.digits_per_group) + length a.after.now ≡ length (list_text a.options a.before.now a.after.now a.between.now a.between2.now a.image.bytes.now a.image.len)) = let a = c.args in
     rw (c.strings_length-strings.ensures.0, groups)
-    (sym (list_parts a.options a.before.now a.after.now a.between.now a.between2.now a.image.now a.bits)) in
+    (sym (list_parts a.options a.before.now a.after.now a.between.now a.between2.now a.image.bytes.now a.image.len)) in
     let a = c.args in
-    let t = list_text a.options a.before.now a.after.now a.between.now a.between2.now a.image.now a.bits in
+    let t = list_text a.options a.before.now a.after.now a.between.now a.between2.now a.image.bytes.now a.image.len in
     simp (sized, ranged) (exports_no_room t _ (measured) c.if-out-needed.true)
 
 pub write_list-requires : goal.write_list-requires
@@ -195,7 +195,7 @@ write_list-requires c =
     let ranged : (let a = c.args in bad_list a.options a.before.now a.after.now a.between.now a.between2.now ≡ false) = sym c.bad_list.ensures ∙ c.if-bad_list.false in
     let good : (let a = c.args in Ranges a.options a.before.now a.after.now a.between.now a.between2.now) = let a = c.args in
     ranges a.options a.before.now a.after.now a.between.now a.between2.now (ranged) in
-    let sized : bad_size c.args.image.now c.args.bits ≡ false = sym c.bad_size.ensures ∙ c.if-bad_size.false in
+    let sized : bad_size c.args.image.bytes.now c.args.image.len ≡ false = sym c.bad_size.ensures ∙ c.if-bad_size.false in
     let group : (let a = c.args in (1 ≤ a.options.digits_per_group * c.base_bits-width.result) × (a.options.digits_per_group * c.base_bits-width.result ≤ 320) × (a.options.digits_per_group * c.base_bits-width.result ≡ group_bits a.options)) = let o = c.args.options in
     let r = good in
     let e = c.base_bits-width.ensures in (
@@ -203,24 +203,24 @@ write_list-requires c =
       mul-le-mul {n₂ = 64} {m₂ = 5} r.digits.1 (omega (arith, base_small o.base)),
       ap (λ (w : ℕ). o.digits_per_group * w) e,
     ) in
-    let groups : c.parts-count.result ≡ ceil_div c.args.bits (group_bits c.args.options) = rw (← (group).2) c.parts-count.ensures in
-    let size : c.args.bits ≤ 16777216 = let a = c.args in
-    (size_good a.image.now a.bits (sized)).0 in
+    let groups : c.parts-count.result ≡ ceil_div c.args.image.len (group_bits c.args.options) = rw (← (group).2) c.parts-count.ensures in
+    let size : c.args.image.len ≤ 16777216 = let a = c.args in
+    (size_good a.image.bytes.now a.image.len (sized)).0 in
     let reach : c.parts-count.result * group_bits c.args.options < 2 ^ 25 = let a = c.args in
     let g = group in
-    rw (groups) (omega (arith, size, ceil_reach a.bits (group_bits a.options))) in
-    let measured : (let a = c.args in length a.before.now + (c.strings_length-strings.result + c.parts-count.result * a.options.digits_per_group) + length a.after.now ≡ length (list_text a.options a.before.now a.after.now a.between.now a.between2.now a.image.now a.bits)) = let a = c.args in
+    rw (groups) (omega (arith, size, ceil_reach a.image.len (group_bits a.options))) in
+    let measured : (let a = c.args in length a.before.now + (c.strings_length-strings.result + c.parts-count.result * a.options.digits_per_group) + length a.after.now ≡ length (list_text a.options a.before.now a.after.now a.between.now a.between2.now a.image.bytes.now a.image.len)) = let a = c.args in
     rw (c.strings_length-strings.ensures.0, groups)
-    (sym (list_parts a.options a.before.now a.after.now a.between.now a.between2.now a.image.now a.bits)) in
+    (sym (list_parts a.options a.before.now a.after.now a.between.now a.between2.now a.image.bytes.now a.image.len)) in
     let a = c.args in
     let ok = good in
-    let image = size_good a.image.now a.bits (sized) in
+    let image = size_good a.image.bytes.now a.image.len (sized) in
     (ok.place, c.base_bits-width.ensures, ok.digits.0, ok.digits.1, omega (arith, reach), groups, image.1, image.0, omega (arith, measured))
 
 pub returns : goal.returns
 unfolding list_outcome
 returns c =
-    let sized : bad_size c.args.image.now c.args.bits ≡ false = sym c.bad_size.ensures ∙ c.if-bad_size.false in
+    let sized : bad_size c.args.image.bytes.now c.args.image.len ≡ false = sym c.bad_size.ensures ∙ c.if-bad_size.false in
     let ranged : (let a = c.args in bad_list a.options a.before.now a.after.now a.between.now a.between2.now ≡ false) = sym c.bad_list.ensures ∙ c.if-bad_list.false in
     let good : (let a = c.args in Ranges a.options a.before.now a.after.now a.between.now a.between2.now) = let a = c.args in
     ranges a.options a.before.now a.after.now a.between.now a.between2.now (ranged) in
@@ -231,8 +231,8 @@ returns c =
       mul-le-mul {n₂ = 64} {m₂ = 5} r.digits.1 (omega (arith, base_small o.base)),
       ap (λ (w : ℕ). o.digits_per_group * w) e,
     ) in
-    let groups : c.parts-count.result ≡ ceil_div c.args.bits (group_bits c.args.options) = rw (← (group).2) c.parts-count.ensures in
-    let measured : (let a = c.args in length a.before.now + (c.strings_length-strings.result + c.parts-count.result * a.options.digits_per_group) + length a.after.now ≡ length (list_text a.options a.before.now a.after.now a.between.now a.between2.now a.image.now a.bits)) = let a = c.args in
+    let groups : c.parts-count.result ≡ ceil_div c.args.image.len (group_bits c.args.options) = rw (← (group).2) c.parts-count.ensures in
+    let measured : (let a = c.args in length a.before.now + (c.strings_length-strings.result + c.parts-count.result * a.options.digits_per_group) + length a.after.now ≡ length (list_text a.options a.before.now a.after.now a.between.now a.between2.now a.image.bytes.now a.image.len)) = let a = c.args in
     rw (c.strings_length-strings.ensures.0, groups)
-    (sym (list_parts a.options a.before.now a.after.now a.between.now a.between2.now a.image.now a.bits)) in
+    (sym (list_parts a.options a.before.now a.after.now a.between.now a.between2.now a.image.bytes.now a.image.len)) in
     simp (sized, ranged) (exports_text (omega (arith, measured)) c.write_list.ensures)

@@ -28,8 +28,8 @@ returns-then-count-eq0 c =
 
 pub put_groups-requires : goal.put_groups-requires
 put_groups-requires c =
-    let digit_groups : (let a = c.args in joined (between_groups a.options a.between.now a.between2.now) (group_text a.options a.image.now a.bits) a.count ≡ joined (string_at c.segment-every.result a.between.now a.between2.now) (group_at a.image.now a.bits a.width a.options.digits_per_group) a.count) = let a = c.args in
-    groups_alike a.options a.between.now a.between2.now a.image.now a.bits a.width c.segment-every.result a.count c.segment-every.ensures c.requires.options.1 in
+    let digit_groups : (let a = c.args in joined (between_groups a.options a.between.now a.between2.now) (group_text a.options a.image.bytes.now a.image.len) a.count ≡ joined (string_at c.segment-every.result a.between.now a.between2.now) (group_at a.image.bytes.now a.image.len a.width a.options.digits_per_group) a.count) = let a = c.args in
+    groups_alike a.options a.between.now a.between2.now a.image.bytes.now a.image.len a.width c.segment-every.result a.count c.segment-every.ensures c.requires.options.1 in
     let a = c.args in
     let options = c.requires.options in record {
       small = (
@@ -44,8 +44,8 @@ put_groups-requires c =
 
 pub returns-then-wide-eq0 : goal.returns-then-wide-eq0
 returns-then-wide-eq0 c =
-    let digit_groups : (let a = c.args in joined (between_groups a.options a.between.now a.between2.now) (group_text a.options a.image.now a.bits) a.count ≡ joined (string_at c.segment-every.result a.between.now a.between2.now) (group_at a.image.now a.bits a.width a.options.digits_per_group) a.count) = let a = c.args in
-    groups_alike a.options a.between.now a.between2.now a.image.now a.bits a.width c.segment-every.result a.count c.segment-every.ensures c.requires.options.1 in
+    let digit_groups : (let a = c.args in joined (between_groups a.options a.between.now a.between2.now) (group_text a.options a.image.bytes.now a.image.len) a.count ≡ joined (string_at c.segment-every.result a.between.now a.between2.now) (group_at a.image.bytes.now a.image.len a.width a.options.digits_per_group) a.count) = let a = c.args in
+    groups_alike a.options a.between.now a.between2.now a.image.bytes.now a.image.len a.width c.segment-every.result a.count c.segment-every.ensures c.requires.options.1 in
     rw (digit_groups) c.put_groups.ensures
 
 pub put_byte_groups-requires : goal.put_byte_groups-requires
@@ -59,4 +59,4 @@ put_byte_groups-requires c =
     let bytes : 0 < wide = omega (arith, c.if-wide-eq0.false) in
     let known = rw (← c.group_bytes-wide.ensures, ← c.group_kind.ensures) at (bytes_digits a.width a.options.digits_per_group (rw (← c.group_bytes-wide.ensures) bytes)) in
     let base : base_bits a.options.base ≡ digit_bits kind = sym options.1 ∙ known.0 in
-    let group = group_bits_lem a.options kind wide base known.1 in record { kind = (base, known.1, options.0); inside = (some, last_inside a.bits (group_bits a.options) a.count group (omega arith) size.1 some, size.2, size.3, bytes, omega (arith, options.3, known.1, bytes_few kind wide)); room = c.requires.room }
+    let group = group_bits_lem a.options kind wide base known.1 in record { kind = (base, known.1, options.0); inside = (some, last_inside a.image.len (group_bits a.options) a.count group (omega arith) size.1 some, size.2, size.3, bytes, omega (arith, options.3, known.1, bytes_few kind wide)); room = c.requires.room }

@@ -11,7 +11,7 @@ abbrev pub invariant-loop-k : goal.invariant-loop-k
 invariant-loop-k l = let strings = between_groups l.options l.between l.between2 in
     (l.k < l.count)
     × (l.k / l.size * l.size ≡ l.k)
-    × Writes (joined strings (group_text l.options l.image l.bits) l.k ++ leading strings l.k) l.initial.out l.at l.out l.next
+    × Writes (joined strings (group_text l.options l.image.bytes.now l.image.len) l.k ++ leading strings l.k) l.initial.out l.at l.out l.next
     × (length l.out ≡ length l.initial.out)
 
 abbrev pub decreases-loop-k : goal.decreases-loop-k

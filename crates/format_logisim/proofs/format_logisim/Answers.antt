@@ -25,17 +25,17 @@ pub returns-then-out-needed : goal.returns-then-out-needed
 unfolding logisim_outcome
 returns-then-out-needed c =
     let a = c.args in
-    let length_known = measured a.image.now a.bits a.bits_per_chunk _ _ c.parts-chunks.ensures c.chunks_length-needed.ensures.0 in
+    let length_known = measured a.image.bytes.now a.image.len a.bits_per_chunk _ _ c.parts-chunks.ensures c.chunks_length-needed.ensures.0 in
     grind (arith, common_steps, exports_no_room)
 
 pub write_logisim-requires-clause-room : goal.write_logisim-requires-clause-room
 write_logisim-requires-clause-room c =
     let a = c.args in
-    omega (arith, measured a.image.now a.bits a.bits_per_chunk _ _ c.parts-chunks.ensures c.chunks_length-needed.ensures.0)
+    omega (arith, measured a.image.bytes.now a.image.len a.bits_per_chunk _ _ c.parts-chunks.ensures c.chunks_length-needed.ensures.0)
 
 pub returns : goal.returns
 unfolding logisim_outcome
 returns c =
     let a = c.args in
-    let length_known = measured a.image.now a.bits a.bits_per_chunk _ _ c.parts-chunks.ensures c.chunks_length-needed.ensures.0 in
+    let length_known = measured a.image.bytes.now a.image.len a.bits_per_chunk _ _ c.parts-chunks.ensures c.chunks_length-needed.ensures.0 in
     grind (arith, common_steps, exports_text)

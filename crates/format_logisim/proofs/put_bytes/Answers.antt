@@ -21,22 +21,22 @@ loop-j-init c = (search rules, (λ h. refl), rw (zero-mul, pieces_none) (writes_
 pub put_line-next-requires : goal.put_line-next-requires
 put_line-next-requires c =
     let part : List ℕ = let a = c.args in
-    pieces (λ i. byte_chunks a.image.now a.bits a.width (8 / a.width) (c.loop-j.j + i)) c.smaller-size.result in
+    pieces (λ i. byte_chunks a.image.bytes.now a.image.len a.width (8 / a.width) (c.loop-j.j + i)) c.min-size.result in
     let room : c.loop-j.next + length (part) ≤ length c.loop-j.out = let a = c.args in
     let m = 8 / a.width in
     let j = c.loop-j.j in
-    let n = c.smaller-size.result in
-    let chunks = chunk_at a.image.now a.bits a.width in
+    let n = c.min-size.result in
+    let chunks = chunk_at a.image.bytes.now a.image.len a.width in
     omega (
       arith,
-      pieces_most chunks ((j + n) * m) (a.count * m) (mul-le-mul_right m (omega (arith, c.smaller-size.ensures, c.loop-j-test.true))),
-      ap length (bytes_next a.image.now a.bits a.width m j n),
+      pieces_most chunks ((j + n) * m) (a.count * m) (mul-le-mul_right m (omega (arith, c.min-size.ensures, c.loop-j-test.true))),
+      ap length (bytes_next a.image.bytes.now a.image.len a.width m j n),
       length-append (pieces chunks (j * m)) (part),
       c.loop-j.invariant.2.next,
       c.loop-j.invariant.3,
       c.requires.room,
     ) in
-    let told = c.smaller-size.ensures in record {
+    let told = c.min-size.ensures in record {
       short = c.requires.short;
       inside = (
         c.loop-j.invariant.1 c.loop-j-test.true,
@@ -51,12 +51,12 @@ put_line-next-requires c =
 pub loop-j-preserved : goal.loop-j-preserved
 loop-j-preserved c =
     let part : List ℕ = let a = c.args in
-    pieces (λ i. byte_chunks a.image.now a.bits a.width (8 / a.width) (c.loop-j.j + i)) c.smaller-size.result in
+    pieces (λ i. byte_chunks a.image.bytes.now a.image.len a.width (8 / a.width) (c.loop-j.j + i)) c.min-size.result in
     let a = c.args in
-    let told = c.smaller-size.ensures in (
+    let told = c.min-size.ensures in (
       omega (arith, told, c.loop-j-test.true),
       (λ h. omega (arith, told, h, c.loop-j.invariant.1 c.loop-j-test.true)),
-      rw (bytes_next a.image.now a.bits a.width (8 / a.width) c.loop-j.j c.smaller-size.result)
+      rw (bytes_next a.image.bytes.now a.image.len a.width (8 / a.width) c.loop-j.j c.min-size.result)
           (writes_then {b = part} c.loop-j.invariant.2 c.put_line-next.ensures),
       omega (arith, c.loop-j.invariant.3, writes_length {t = part} c.put_line-next.ensures),
     )

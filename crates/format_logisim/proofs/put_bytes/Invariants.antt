@@ -9,7 +9,7 @@ use Rattle.format_logisim.proofs.put_bytes.Given as goal
 abbrev pub invariant-loop-j : goal.invariant-loop-j
 invariant-loop-j l = (l.j ≤ l.count)
     × (l.j < l.count → l.j % 16 ≡ 0)
-    × Writes (pieces (chunk_at l.image l.bits l.width) (l.j * (8 / l.width))) l.initial.out l.at l.out l.next
+    × Writes (pieces (chunk_at l.image.bytes.now l.image.len l.width) (l.j * (8 / l.width))) l.initial.out l.at l.out l.next
     × (length l.out ≡ length l.initial.out)
 
 abbrev pub decreases-loop-j : goal.decreases-loop-j

@@ -16,23 +16,23 @@ use Rattle.format_logisim.proofs.put_chunk.Goals as goal
 pub put_hex_line-next-requires : goal.put_hex_line-next-requires
 put_hex_line-next-requires c =
     let room : (let a = c.args in a.at + ((a.count + 3) / 4 + (1 + length (every 16 ((a.from.0 + a.count) / 8) (ascii "\n")))) ≤ length a.out.now) = let a = c.args in
-    omega (arith, c.requires.1, chunk_parts a.image.now a.bits a.from.0 a.count) in
+    omega (arith, c.requires.1, chunk_parts a.image.bytes.now a.image.len a.from.0 a.count) in
     (c.requires.0, omega (arith, room))
 
 pub put-next-requires : goal.put-next-requires
 put-next-requires c =
     let room : (let a = c.args in a.at + ((a.count + 3) / 4 + (1 + length (every 16 ((a.from.0 + a.count) / 8) (ascii "\n")))) ≤ length a.out.now) = let a = c.args in
-    omega (arith, c.requires.1, chunk_parts a.image.now a.bits a.from.0 a.count) in
+    omega (arith, c.requires.1, chunk_parts a.image.bytes.now a.image.len a.from.0 a.count) in
     let digits_end : c.put_hex_line-next.result ≡ c.args.at + (c.args.count + 3) / 4 = let a = c.args in
-    omega (arith, c.put_hex_line-next.ensures.next, line_length a.image.now a.bits a.from.0 a.count) in
+    omega (arith, c.put_hex_line-next.ensures.next, line_length a.image.bytes.now a.image.len a.from.0 a.count) in
     omega (arith, room, digits_end)
 
 pub put_every-requires : goal.put_every-requires
 put_every-requires c =
     let room : (let a = c.args in a.at + ((a.count + 3) / 4 + (1 + length (every 16 ((a.from.0 + a.count) / 8) (ascii "\n")))) ≤ length a.out.now) = let a = c.args in
-    omega (arith, c.requires.1, chunk_parts a.image.now a.bits a.from.0 a.count) in
+    omega (arith, c.requires.1, chunk_parts a.image.bytes.now a.image.len a.from.0 a.count) in
     let digits_end : c.put_hex_line-next.result ≡ c.args.at + (c.args.count + 3) / 4 = let a = c.args in
-    omega (arith, c.put_hex_line-next.ensures.next, line_length a.image.now a.bits a.from.0 a.count) in
+    omega (arith, c.put_hex_line-next.ensures.next, line_length a.image.bytes.now a.image.len a.from.0 a.count) in
     (search rules, omega (arith, room, digits_end, c.put-next.ensures.next))
 
 pub returns : goal.returns

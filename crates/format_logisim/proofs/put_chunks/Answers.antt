@@ -17,7 +17,7 @@ use Rattle.format_logisim.proofs.put_chunks.Goals as goal
 pub overflow_mul-offset : goal.overflow_mul-offset
 overflow_mul-offset c =
     let a = c.args in
-    record { fits = omega (arith, mul-le-mul_right a.width c.requires.size.4, rw (← c.requires.size.3) at (ceil_reach a.bits a.width), c.requires.size.1, c.requires.size.2) }
+    record { fits = omega (arith, mul-le-mul_right a.width c.requires.size.4, rw (← c.requires.size.3) at (ceil_reach a.image.len a.width), c.requires.size.1, c.requires.size.2) }
 
 pub loop-i-init : goal.loop-i-init
 loop-i-init c =
@@ -26,34 +26,34 @@ loop-i-init c =
 
 pub overflow_sub-bits : goal.overflow_sub-bits
 overflow_sub-bits c =
-    let starts : c.loop-i.i * c.args.width < c.args.bits = ceil_inside c.args.bits c.args.width c.loop-i.i c.requires.size.0 (omega (arith, c.requires.size.3)) in
+    let starts : c.loop-i.i * c.args.width < c.args.image.len = ceil_inside c.args.image.len c.args.width c.loop-i.i c.requires.size.0 (omega (arith, c.requires.size.3)) in
     omega (arith, starts)
 
 pub put_chunk-next-requires : goal.put_chunk-next-requires
 unfolding part_bits
 put_chunk-next-requires c =
-    let starts : c.loop-i.i * c.args.width < c.args.bits = ceil_inside c.args.bits c.args.width c.loop-i.i c.requires.size.0 (omega (arith, c.requires.size.3)) in
+    let starts : c.loop-i.i * c.args.width < c.args.image.len = ceil_inside c.args.image.len c.args.width c.loop-i.i c.requires.size.0 (omega (arith, c.requires.size.3)) in
     let chunk : List ℕ = let a = c.args in
-    chunk_at a.image.now a.bits a.width c.loop-i.i in
-    let written : (let a = c.args in chunk_text a.image.now a.bits c.loop-i.offset c.smaller-count.result) ≡ chunk = rw (c.smaller-count.ensures, c.loop-i.invariant.2) in
+    chunk_at a.image.bytes.now a.image.len a.width c.loop-i.i in
+    let written : (let a = c.args in chunk_text a.image.bytes.now a.image.len c.loop-i.offset c.min-count.result) ≡ chunk = rw (c.min-count.ensures, c.loop-i.invariant.2) in
     let room : c.loop-i.next + length (chunk) ≤ length c.loop-i.out = let a = c.args in
     let i = c.loop-i.i in
     let place : a.first + (i - a.first) ≡ i = omega arith in
-    let all = rw place at (pieces_room (λ k. chunk_at a.image.now a.bits a.width (a.first + k)) (i - a.first) (a.chunks - a.first) (omega arith)) in
+    let all = rw place at (pieces_room (λ k. chunk_at a.image.bytes.now a.image.len a.width (a.first + k)) (i - a.first) (a.chunks - a.first) (omega arith)) in
     omega (arith, all, c.loop-i.invariant.3.next, c.requires.room) in
     (omega (arith, starts), rw (written) (omega (arith, room)))
 
 pub overflow_add-offset : goal.overflow_add-offset
 overflow_add-offset c =
-    let starts : c.loop-i.i * c.args.width < c.args.bits = ceil_inside c.args.bits c.args.width c.loop-i.i c.requires.size.0 (omega (arith, c.requires.size.3)) in
+    let starts : c.loop-i.i * c.args.width < c.args.image.len = ceil_inside c.args.image.len c.args.width c.loop-i.i c.requires.size.0 (omega (arith, c.requires.size.3)) in
     omega (arith, starts)
 
 pub loop-i-preserved : goal.loop-i-preserved
 unfolding part_bits
 loop-i-preserved c =
     let chunk : List ℕ = let a = c.args in
-    chunk_at a.image.now a.bits a.width c.loop-i.i in
-    let written : (let a = c.args in chunk_text a.image.now a.bits c.loop-i.offset c.smaller-count.result) ≡ chunk = rw (c.smaller-count.ensures, c.loop-i.invariant.2) in
+    chunk_at a.image.bytes.now a.image.len a.width c.loop-i.i in
+    let written : (let a = c.args in chunk_text a.image.bytes.now a.image.len c.loop-i.offset c.min-count.result) ≡ chunk = rw (c.min-count.ensures, c.loop-i.invariant.2) in
     let a = c.args in
     let i = c.loop-i.i in
     let put-chunk = rw (written) at c.put_chunk-next.ensures in

@@ -10,7 +10,7 @@ abbrev pub invariant-loop-i : goal.invariant-loop-i
 invariant-loop-i l = (l.i ≤ l.chunks)
     × (l.first ≤ l.i)
     × (l.offset ≡ l.i * l.width)
-    × Writes (pieces (λ k. chunk_at l.image l.bits l.width (l.first + k)) (l.i - l.first)) l.initial.out l.at l.out l.next
+    × Writes (pieces (λ k. chunk_at l.image.bytes.now l.image.len l.width (l.first + k)) (l.i - l.first)) l.initial.out l.at l.out l.next
     × (length l.out ≡ length l.initial.out)
 
 abbrev pub decreases-loop-i : goal.decreases-loop-i

@@ -5,6 +5,7 @@ use mathlib.Core.List.{List, ◌++◌}
 use Prim.Native.Nat.{ℕ, ◌+◌, ◌-◌, ◌*◌, ◌/◌, ◌≤◌}
 use native.Mathlib.Omega.{arith}
 use lib.ListN.{length, get_or, length-append}
+use borrow.Author.Rules.{rules}
 use Rattle.bitvec.specs.Bits.{byte_at}
 use Rattle.bitvec.proofs.Words.{byte_whole}
 use Rattle.output.specs.Ascii.{ascii}
@@ -18,13 +19,13 @@ use Rattle.format_logisim.proofs.put_line.Goals as goal
 pub put_broken-next-requires : goal.put_broken-next-requires
 put_broken-next-requires c =
     let others : List ℕ = let a = c.args in
-    pieces (λ i. spaced_digits a.width (8 / a.width) (byte_at a.image.now a.bits (a.j + 1 + i))) (a.count - 1) in
+    pieces (λ i. spaced_digits a.width (8 / a.width) (byte_at a.image.bytes.now a.image.len (a.j + 1 + i))) (a.count - 1) in
     let newline : List ℕ = every 16 c.args.count (ascii "\n") in
-    let text : (let a = c.args in pieces (λ i. byte_chunks a.image.now a.bits a.width (8 / a.width) (a.j + i)) a.count ≡ broken_digits a.width (8 / a.width) (byte_at a.image.now a.bits a.j) ++ (others ++ newline)) = let a = c.args in
+    let text : (let a = c.args in pieces (λ i. byte_chunks a.image.bytes.now a.image.len a.width (8 / a.width) (a.j + i)) a.count ≡ broken_digits a.width (8 / a.width) (byte_at a.image.bytes.now a.image.len a.j) ++ (others ++ newline)) = let a = c.args in
     let inside = c.requires.inside in
-    line a.image.now a.bits a.width (8 / a.width) c.requires.short.0 c.requires.short.1 a.j inside.0 a.count inside.1 inside.2 inside.3 in
+    line a.image.bytes.now a.image.len a.width (8 / a.width) c.requires.short.0 c.requires.short.1 a.j inside.0 a.count inside.1 inside.2 inside.3 in
     let room : (let a = c.args in a.at + ((8 / a.width - 1) * 3 + 2 + (length (others) + length (newline))) ≤ length a.out.now) = let a = c.args in
-    let byte = byte_at a.image.now a.bits a.j in
+    let byte = byte_at a.image.bytes.now a.image.len a.j in
     omega (
       arith,
       c.requires.room,
@@ -38,13 +39,13 @@ put_broken-next-requires c =
 pub put_row-next-requires : goal.put_row-next-requires
 put_row-next-requires c =
     let others : List ℕ = let a = c.args in
-    pieces (λ i. spaced_digits a.width (8 / a.width) (byte_at a.image.now a.bits (a.j + 1 + i))) (a.count - 1) in
+    pieces (λ i. spaced_digits a.width (8 / a.width) (byte_at a.image.bytes.now a.image.len (a.j + 1 + i))) (a.count - 1) in
     let newline : List ℕ = every 16 c.args.count (ascii "\n") in
-    let text : (let a = c.args in pieces (λ i. byte_chunks a.image.now a.bits a.width (8 / a.width) (a.j + i)) a.count ≡ broken_digits a.width (8 / a.width) (byte_at a.image.now a.bits a.j) ++ (others ++ newline)) = let a = c.args in
+    let text : (let a = c.args in pieces (λ i. byte_chunks a.image.bytes.now a.image.len a.width (8 / a.width) (a.j + i)) a.count ≡ broken_digits a.width (8 / a.width) (byte_at a.image.bytes.now a.image.len a.j) ++ (others ++ newline)) = let a = c.args in
     let inside = c.requires.inside in
-    line a.image.now a.bits a.width (8 / a.width) c.requires.short.0 c.requires.short.1 a.j inside.0 a.count inside.1 inside.2 inside.3 in
+    line a.image.bytes.now a.image.len a.width (8 / a.width) c.requires.short.0 c.requires.short.1 a.j inside.0 a.count inside.1 inside.2 inside.3 in
     let room : (let a = c.args in a.at + ((8 / a.width - 1) * 3 + 2 + (length (others) + length (newline))) ≤ length a.out.now) = let a = c.args in
-    let byte = byte_at a.image.now a.bits a.j in
+    let byte = byte_at a.image.bytes.now a.image.len a.j in
     omega (
       arith,
       c.requires.room,
@@ -60,19 +61,19 @@ put_row-next-requires c =
       short = c.requires.short;
       inside = (omega (arith, inside.1, inside.3), omega (arith, inside.1, inside.4));
       room = omega
-          (arith, room, others_length, wrote.next, writes_length wrote, broken_length a.width (8 / a.width) (get_or a.image.now a.j 0));
+          (arith, room, others_length, wrote.next, writes_length wrote, broken_length a.width (8 / a.width) (get_or a.image.bytes.now a.j 0));
     }
 
 pub put_every-requires : goal.put_every-requires
 put_every-requires c =
     let others : List ℕ = let a = c.args in
-    pieces (λ i. spaced_digits a.width (8 / a.width) (byte_at a.image.now a.bits (a.j + 1 + i))) (a.count - 1) in
+    pieces (λ i. spaced_digits a.width (8 / a.width) (byte_at a.image.bytes.now a.image.len (a.j + 1 + i))) (a.count - 1) in
     let newline : List ℕ = every 16 c.args.count (ascii "\n") in
-    let text : (let a = c.args in pieces (λ i. byte_chunks a.image.now a.bits a.width (8 / a.width) (a.j + i)) a.count ≡ broken_digits a.width (8 / a.width) (byte_at a.image.now a.bits a.j) ++ (others ++ newline)) = let a = c.args in
+    let text : (let a = c.args in pieces (λ i. byte_chunks a.image.bytes.now a.image.len a.width (8 / a.width) (a.j + i)) a.count ≡ broken_digits a.width (8 / a.width) (byte_at a.image.bytes.now a.image.len a.j) ++ (others ++ newline)) = let a = c.args in
     let inside = c.requires.inside in
-    line a.image.now a.bits a.width (8 / a.width) c.requires.short.0 c.requires.short.1 a.j inside.0 a.count inside.1 inside.2 inside.3 in
+    line a.image.bytes.now a.image.len a.width (8 / a.width) c.requires.short.0 c.requires.short.1 a.j inside.0 a.count inside.1 inside.2 inside.3 in
     let room : (let a = c.args in a.at + ((8 / a.width - 1) * 3 + 2 + (length (others) + length (newline))) ≤ length a.out.now) = let a = c.args in
-    let byte = byte_at a.image.now a.bits a.j in
+    let byte = byte_at a.image.bytes.now a.image.len a.j in
     omega (
       arith,
       c.requires.room,
@@ -90,7 +91,7 @@ put_every-requires c =
         room,
         wrote.next,
         writes_length wrote,
-        broken_length a.width (8 / a.width) (get_or a.image.now a.j 0),
+        broken_length a.width (8 / a.width) (get_or a.image.bytes.now a.j 0),
         wrote₂.next,
         writes_length {t = others} wrote₂,
       ),
@@ -99,13 +100,13 @@ put_every-requires c =
 pub returns : goal.returns
 returns c =
     let others : List ℕ = let a = c.args in
-    pieces (λ i. spaced_digits a.width (8 / a.width) (byte_at a.image.now a.bits (a.j + 1 + i))) (a.count - 1) in
+    pieces (λ i. spaced_digits a.width (8 / a.width) (byte_at a.image.bytes.now a.image.len (a.j + 1 + i))) (a.count - 1) in
     let newline : List ℕ = every 16 c.args.count (ascii "\n") in
-    let text : (let a = c.args in pieces (λ i. byte_chunks a.image.now a.bits a.width (8 / a.width) (a.j + i)) a.count ≡ broken_digits a.width (8 / a.width) (byte_at a.image.now a.bits a.j) ++ (others ++ newline)) = let a = c.args in
+    let text : (let a = c.args in pieces (λ i. byte_chunks a.image.bytes.now a.image.len a.width (8 / a.width) (a.j + i)) a.count ≡ broken_digits a.width (8 / a.width) (byte_at a.image.bytes.now a.image.len a.j) ++ (others ++ newline)) = let a = c.args in
     let inside = c.requires.inside in
-    line a.image.now a.bits a.width (8 / a.width) c.requires.short.0 c.requires.short.1 a.j inside.0 a.count inside.1 inside.2 inside.3 in
+    line a.image.bytes.now a.image.len a.width (8 / a.width) c.requires.short.0 c.requires.short.1 a.j inside.0 a.count inside.1 inside.2 inside.3 in
     let a = c.args in
     let inside = c.requires.inside in
-    let byte = byte_whole a.image.now a.bits a.j (omega (arith, inside.1, inside.3)) (c.type_inv.image a.j).fits in
+    let byte = byte_whole a.image.bytes.now a.image.len a.j (omega (arith, inside.1, inside.3)) (search rules) in
     rw (text, byte)
     (writes_then c.put_broken-next.ensures (writes_then {a = others} {b = newline} c.put_row-next.ensures c.put_every.ensures))

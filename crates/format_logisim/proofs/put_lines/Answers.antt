@@ -25,15 +25,15 @@ loop-k-init c = (search rules, rw (zero-mul, pieces_none) (writes_nothing _ _), 
 pub put_sixteen-next-requires : goal.put_sixteen-next-requires
 put_sixteen-next-requires c =
     let row : List ℕ = let a = c.args in
-    rows_text Hex a.image.now a.bits (c.loop-k.k * 16) a.size (ascii " ") a.count in
+    rows_text Hex a.image.bytes.now a.image.len (c.loop-k.k * 16) a.size (ascii " ") a.count in
     let chunks : ℕ → List ℕ = λ n. let a = c.args in
-    pieces (chunk_at a.image.now a.bits (a.size * 8)) n in
+    pieces (chunk_at a.image.bytes.now a.image.len (a.size * 8)) n in
     let next_line : (let count = c.args.count in chunks (c.loop-k.k * count + count) ≡ chunks (c.loop-k.k * count) ++ (row ++ ascii "\n")) = let a = c.args in
     let pre = c.requires.inside in
-    line_next a.image.now a.bits a.size a.count c.loop-k.k pre.0 pre.1 pre.2 (omega (arith, pre.3)) in
+    line_next a.image.bytes.now a.image.len a.size a.count c.loop-k.k pre.0 pre.1 pre.2 (omega (arith, pre.3)) in
     let room : c.loop-k.next + (length (row) + 1) ≤ length c.loop-k.out = let a = c.args in
     let k = c.loop-k.k in
-    let most = pieces_most (chunk_at a.image.now a.bits (a.size * 8)) (k * a.count + a.count) (a.lines * a.count) (stride k a.lines a.count c.loop-k-test.true) in
+    let most = pieces_most (chunk_at a.image.bytes.now a.image.len (a.size * 8)) (k * a.count + a.count) (a.lines * a.count) (stride k a.lines a.count c.loop-k-test.true) in
     omega (
       arith,
       most,
@@ -45,21 +45,21 @@ put_sixteen-next-requires c =
     ) in
     let a = c.args in
     let bytes = mul_comm a.count a.size ∙ c.requires.inside.2 in
-    let long = rows_length Hex a.image.now a.bits (c.loop-k.k * 16) a.size (ascii " ") a.count in
+    let long = rows_length Hex a.image.bytes.now a.image.len (c.loop-k.k * 16) a.size (ascii " ") a.count in
     record { inside = (bytes, omega (arith, c.requires.inside.3), omega (arith, c.requires.inside.3, c.requires.inside.4)); room = omega (arith, room, long) }
 
 pub put-next-requires : goal.put-next-requires
 put-next-requires c =
     let row : List ℕ = let a = c.args in
-    rows_text Hex a.image.now a.bits (c.loop-k.k * 16) a.size (ascii " ") a.count in
+    rows_text Hex a.image.bytes.now a.image.len (c.loop-k.k * 16) a.size (ascii " ") a.count in
     let chunks : ℕ → List ℕ = λ n. let a = c.args in
-    pieces (chunk_at a.image.now a.bits (a.size * 8)) n in
+    pieces (chunk_at a.image.bytes.now a.image.len (a.size * 8)) n in
     let next_line : (let count = c.args.count in chunks (c.loop-k.k * count + count) ≡ chunks (c.loop-k.k * count) ++ (row ++ ascii "\n")) = let a = c.args in
     let pre = c.requires.inside in
-    line_next a.image.now a.bits a.size a.count c.loop-k.k pre.0 pre.1 pre.2 (omega (arith, pre.3)) in
+    line_next a.image.bytes.now a.image.len a.size a.count c.loop-k.k pre.0 pre.1 pre.2 (omega (arith, pre.3)) in
     let room : c.loop-k.next + (length (row) + 1) ≤ length c.loop-k.out = let a = c.args in
     let k = c.loop-k.k in
-    let most = pieces_most (chunk_at a.image.now a.bits (a.size * 8)) (k * a.count + a.count) (a.lines * a.count) (stride k a.lines a.count c.loop-k-test.true) in
+    let most = pieces_most (chunk_at a.image.bytes.now a.image.len (a.size * 8)) (k * a.count + a.count) (a.lines * a.count) (stride k a.lines a.count c.loop-k-test.true) in
     omega (
       arith,
       most,
@@ -74,12 +74,12 @@ put-next-requires c =
 pub loop-k-preserved : goal.loop-k-preserved
 loop-k-preserved c =
     let chunks : ℕ → List ℕ = λ n. let a = c.args in
-    pieces (chunk_at a.image.now a.bits (a.size * 8)) n in
+    pieces (chunk_at a.image.bytes.now a.image.len (a.size * 8)) n in
     let row : List ℕ = let a = c.args in
-    rows_text Hex a.image.now a.bits (c.loop-k.k * 16) a.size (ascii " ") a.count in
+    rows_text Hex a.image.bytes.now a.image.len (c.loop-k.k * 16) a.size (ascii " ") a.count in
     let next_line : (let count = c.args.count in chunks (c.loop-k.k * count + count) ≡ chunks (c.loop-k.k * count) ++ (row ++ ascii "\n")) = let a = c.args in
     let pre = c.requires.inside in
-    line_next a.image.now a.bits a.size a.count c.loop-k.k pre.0 pre.1 pre.2 (omega (arith, pre.3)) in
+    line_next a.image.bytes.now a.image.len a.size a.count c.loop-k.k pre.0 pre.1 pre.2 (omega (arith, pre.3)) in
     let a = c.args in
     let more : (c.loop-k.k + 1) * a.count ≡ c.loop-k.k * a.count + a.count = omega (arith, suc-mul c.loop-k.k a.count) in (
       search rules,

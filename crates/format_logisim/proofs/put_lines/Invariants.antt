@@ -7,7 +7,7 @@ use Rattle.format_logisim.specs.Logisim.{chunk_at}
 use Rattle.format_logisim.proofs.put_lines.Given as goal
 
 abbrev pub invariant-loop-k : goal.invariant-loop-k
-invariant-loop-k l = (l.k ≤ l.lines) × Writes (pieces (chunk_at l.image l.bits (l.size * 8)) (l.k * l.count)) l.initial.out l.at l.out l.next × (length l.out ≡ length l.initial.out)
+invariant-loop-k l = (l.k ≤ l.lines) × Writes (pieces (chunk_at l.image.bytes.now l.image.len (l.size * 8)) (l.k * l.count)) l.initial.out l.at l.out l.next × (length l.out ≡ length l.initial.out)
 
 abbrev pub decreases-loop-k : goal.decreases-loop-k
 decreases-loop-k l = l.lines - l.k

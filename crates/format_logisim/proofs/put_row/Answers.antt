@@ -25,13 +25,13 @@ put_spaced-next-requires c =
     let l = c.loop-k in
     let a = c.args in
     let each = 8 / a.width * 2 in
-    let before = pieces_length (digits a.image.now a.bits a.width a.first) each l.k (λ i h. spaced_length _ _ _) in record { short = c.requires.short; inside = (omega (arith, c.loop-k-test.true, c.requires.inside.0), omega (arith, c.loop-k-test.true, c.requires.inside.1)); room = omega (arith, before, stride l.k a.count each c.loop-k-test.true, l.invariant.1.next, l.invariant.2, c.requires.room) }
+    let before = pieces_length (digits a.image.bytes.now a.image.len a.width a.first) each l.k (λ i h. spaced_length _ _ _) in record { short = c.requires.short; inside = (omega (arith, c.loop-k-test.true, c.requires.inside.0), omega (arith, c.loop-k-test.true, c.requires.inside.1)); room = omega (arith, before, stride l.k a.count each c.loop-k-test.true, l.invariant.1.next, l.invariant.2, c.requires.room) }
 
 pub loop-k-preserved : goal.loop-k-preserved
 loop-k-preserved c =
     let l = c.loop-k in
     let a = c.args in (
       search rules,
-      rw pieces_next (writes_then {b = digits a.image.now a.bits a.width a.first l.k} l.invariant.1 c.put_spaced-next.ensures),
-      omega (arith, l.invariant.2, writes_length {t = digits a.image.now a.bits a.width a.first l.k} c.put_spaced-next.ensures),
+      rw pieces_next (writes_then {b = digits a.image.bytes.now a.image.len a.width a.first l.k} l.invariant.1 c.put_spaced-next.ensures),
+      omega (arith, l.invariant.2, writes_length {t = digits a.image.bytes.now a.image.len a.width a.first l.k} c.put_spaced-next.ensures),
     )

@@ -13,7 +13,7 @@ abbrev digits : List ℕ → ℕ → ℕ → ℕ → ℕ → List ℕ
 digits image bits width first k = spaced_digits width (8 / width) (byte_at image bits (first + k))
 
 abbrev pub invariant-loop-k : goal.invariant-loop-k
-invariant-loop-k l = (l.k ≤ l.count) × Writes (pieces (digits l.image l.bits l.width l.first) l.k) l.initial.out l.at l.out l.next × (length l.out ≡ length l.initial.out)
+invariant-loop-k l = (l.k ≤ l.count) × Writes (pieces (digits l.image.bytes.now l.image.len l.width l.first) l.k) l.initial.out l.at l.out l.next × (length l.out ≡ length l.initial.out)
 
 abbrev pub decreases-loop-k : goal.decreases-loop-k
 decreases-loop-k l = l.count - l.k

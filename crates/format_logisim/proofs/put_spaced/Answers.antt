@@ -4,6 +4,7 @@ use mathlib.Core.Path.{◌≡◌}
 use Prim.Native.Nat.{◌/◌}
 use native.Mathlib.Omega.{arith}
 use lib.ListN.{get_or}
+use borrow.Author.Rules.{rules}
 use Rattle.bitvec.proofs.Words.{byte_whole}
 use Rattle.output.proofs.Writes.{writes_then, writes_length}
 use Rattle.format_logisim.proofs.Short.{word_length, halves, four_bits}
@@ -17,11 +18,11 @@ put_word-requires c =
 pub returns-then-width-eq1 : goal.returns-then-width-eq1
 returns-then-width-eq1 c =
     let a = c.args in
-    let small = (c.type_inv.image a.j).fits in
+    let small = (search rules) in
     rw (
       c.if-width-eq1.true,
-      byte_whole a.image.now a.bits a.j c.requires.inside.0 small,
-      ← halves (get_or a.image.now a.j 0) small,
+      byte_whole a.image.bytes.now a.image.len a.j c.requires.inside.0 small,
+      ← halves (get_or a.image.bytes.now a.j 0) small,
       ← c.spaced_ones.ensures,
       ← c.spaced_ones-then-width-eq1.ensures,
     )
@@ -32,7 +33,7 @@ returns-then-width-eq2 c =
     let a = c.args in
     rw (
       c.if-width-eq2.true,
-      byte_whole a.image.now a.bits a.j c.requires.inside.0 (c.type_inv.image a.j).fits,
+      byte_whole a.image.bytes.now a.image.len a.j c.requires.inside.0 (search rules),
       ← c.spaced_twos.ensures,
     )
     c.put_word-then-width-eq2.ensures
@@ -43,7 +44,7 @@ returns c =
     let a = c.args in
     rw (
       four,
-      byte_whole a.image.now a.bits a.j c.requires.inside.0 (c.type_inv.image a.j).fits,
+      byte_whole a.image.bytes.now a.image.len a.j c.requires.inside.0 (search rules),
       ← c.spaced_fours.ensures,
     )
     c.put_four.ensures

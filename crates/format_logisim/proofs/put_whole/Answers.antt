@@ -11,5 +11,5 @@ use Rattle.format_logisim.proofs.put_whole.Goals as goal
 pub returns-in_default : goal.returns-in_default
 unfolding by_bytes per_line whole_chunks
 returns-in_default c =
-    let none : whole_chunks c.args.bits c.args.width ≡ 0 = grind (arith, common_steps) in
+    let none : whole_chunks c.args.image.len c.args.width ≡ 0 = grind (arith, common_steps) in
     rw (none, pieces_none) (writes_nothing _ _)

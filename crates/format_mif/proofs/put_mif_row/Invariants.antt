@@ -12,7 +12,7 @@ abbrev line : List ℕ → ℕ → ℕ → ℕ → ℕ → List ℕ
 line image bits width row j = mif_line image bits width (row * 16 + j)
 
 abbrev pub invariant-loop-j : goal.invariant-loop-j
-invariant-loop-j l = (l.j ≤ l.count) × Writes (pieces (line l.image l.bits l.width l.row) l.j) l.initial.out l.at l.out l.next × (length l.out ≡ length l.initial.out)
+invariant-loop-j l = (l.j ≤ l.count) × Writes (pieces (line l.image.bytes.now l.image.len l.width l.row) l.j) l.initial.out l.at l.out l.next × (length l.out ≡ length l.initial.out)
 
 abbrev pub decreases-loop-j : goal.decreases-loop-j
 decreases-loop-j l = l.count - l.j

@@ -14,14 +14,14 @@ pub put_run-requires : goal.put_run-requires
 put_run-requires c =
     let a = c.args in
     let digits : line_digits a.kind a.count ≡ a.count = ap (λ (k : Readmem). line_digits k a.count) c.in-Binary.is in
-    (search rules, omega arith, omega (arith, line_digits_lem a.kind a.image.now a.bits a.from.0 a.count))
+    (search rules, omega arith, omega (arith, line_digits_lem a.kind a.image.bytes.now a.image.len a.from.0 a.count))
 
 pub put_hex_line-requires : goal.put_hex_line-requires
 unfolding ceil_div
 put_hex_line-requires c =
     let a = c.args in
     let digits : line_digits a.kind a.count ≡ (a.count + 3) / 4 = ap (λ (k : Readmem). line_digits k a.count) c.in-Hex.is in
-    (c.requires.0, omega (arith, line_digits_lem a.kind a.image.now a.bits a.from.0 a.count))
+    (c.requires.0, omega (arith, line_digits_lem a.kind a.image.bytes.now a.image.len a.from.0 a.count))
 
 pub returns-in-Binary : goal.returns-in-Binary
 unfolding line_text

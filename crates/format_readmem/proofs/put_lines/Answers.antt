@@ -18,7 +18,7 @@ use Rattle.format_readmem.proofs.put_lines.Goals as goal
 pub overflow_mul-offset : goal.overflow_mul-offset
 overflow_mul-offset c =
     let a = c.args in
-    record { fits = omega (arith, mul-le-mul_right a.width c.requires.size.4, c.requires.size.3, ceil_reach a.bits a.width, rw (← c.requires.size.3) at (ceil_reach a.bits a.width), c.requires.size.1, c.requires.size.2) }
+    record { fits = omega (arith, mul-le-mul_right a.width c.requires.size.4, c.requires.size.3, ceil_reach a.image.len a.width, rw (← c.requires.size.3) at (ceil_reach a.image.len a.width), c.requires.size.1, c.requires.size.2) }
 
 pub loop-i-init : goal.loop-i-init
 loop-i-init c =
@@ -27,20 +27,20 @@ loop-i-init c =
 
 pub overflow_sub-bits : goal.overflow_sub-bits
 overflow_sub-bits c =
-    let starts : c.loop-i.i * c.args.width < c.args.bits = ceil_inside c.args.bits c.args.width c.loop-i.i c.requires.size.0 (omega (arith, c.requires.size.3)) in
+    let starts : c.loop-i.i * c.args.width < c.args.image.len = ceil_inside c.args.image.len c.args.width c.loop-i.i c.requires.size.0 (omega (arith, c.requires.size.3)) in
     omega (arith, starts)
 
 pub put_line-next-requires : goal.put_line-next-requires
 unfolding line_at part_bits
 put_line-next-requires c =
-    let starts : c.loop-i.i * c.args.width < c.args.bits = ceil_inside c.args.bits c.args.width c.loop-i.i c.requires.size.0 (omega (arith, c.requires.size.3)) in
+    let starts : c.loop-i.i * c.args.width < c.args.image.len = ceil_inside c.args.image.len c.args.width c.loop-i.i c.requires.size.0 (omega (arith, c.requires.size.3)) in
     let line : List ℕ = let a = c.args in
-    line_text a.kind a.image.now a.bits (c.loop-i.i * a.width) (part_bits a.bits a.width c.loop-i.i) in
-    let written : (let a = c.args in line_text a.kind a.image.now a.bits c.loop-i.offset c.smaller-count.result) ≡ line = rw (c.smaller-count.ensures, c.loop-i.invariant.2) in
+    line_text a.kind a.image.bytes.now a.image.len (c.loop-i.i * a.width) (part_bits a.image.len a.width c.loop-i.i) in
+    let written : (let a = c.args in line_text a.kind a.image.bytes.now a.image.len c.loop-i.offset c.min-count.result) ≡ line = rw (c.min-count.ensures, c.loop-i.invariant.2) in
     let room : c.loop-i.next + length (line) + 1 ≤ length c.loop-i.out = let a = c.args in
     let i = c.loop-i.i in
     let place : a.first + (i - a.first) ≡ i = omega arith in
-    let all = rw place at (pieces_room (λ k. line_at a.kind a.image.now a.bits a.width (a.first + k)) (i - a.first) (a.lines - a.first) (omega arith)) in
+    let all = rw place at (pieces_room (λ k. line_at a.kind a.image.bytes.now a.image.len a.width (a.first + k)) (i - a.first) (a.lines - a.first) (omega arith)) in
     let one = length-append (line) (ascii "\n") in
     omega (arith, all, c.loop-i.invariant.3.next, c.requires.room) in
     (omega (arith, starts), rw (written) (omega (arith, room)))
@@ -49,27 +49,27 @@ pub put-next-requires : goal.put-next-requires
 unfolding line_at part_bits
 put-next-requires c =
     let line : List ℕ = let a = c.args in
-    line_text a.kind a.image.now a.bits (c.loop-i.i * a.width) (part_bits a.bits a.width c.loop-i.i) in
+    line_text a.kind a.image.bytes.now a.image.len (c.loop-i.i * a.width) (part_bits a.image.len a.width c.loop-i.i) in
     let room : c.loop-i.next + length (line) + 1 ≤ length c.loop-i.out = let a = c.args in
     let i = c.loop-i.i in
     let place : a.first + (i - a.first) ≡ i = omega arith in
-    let all = rw place at (pieces_room (λ k. line_at a.kind a.image.now a.bits a.width (a.first + k)) (i - a.first) (a.lines - a.first) (omega arith)) in
+    let all = rw place at (pieces_room (λ k. line_at a.kind a.image.bytes.now a.image.len a.width (a.first + k)) (i - a.first) (a.lines - a.first) (omega arith)) in
     let one = length-append (line) (ascii "\n") in
     omega (arith, all, c.loop-i.invariant.3.next, c.requires.room) in
-    let written : (let a = c.args in line_text a.kind a.image.now a.bits c.loop-i.offset c.smaller-count.result) ≡ line = rw (c.smaller-count.ensures, c.loop-i.invariant.2) in
+    let written : (let a = c.args in line_text a.kind a.image.bytes.now a.image.len c.loop-i.offset c.min-count.result) ≡ line = rw (c.min-count.ensures, c.loop-i.invariant.2) in
     omega (arith, room, c.put_line-next.ensures.next, ap length (written))
 
 pub overflow_add-offset : goal.overflow_add-offset
 overflow_add-offset c =
-    let starts : c.loop-i.i * c.args.width < c.args.bits = ceil_inside c.args.bits c.args.width c.loop-i.i c.requires.size.0 (omega (arith, c.requires.size.3)) in
+    let starts : c.loop-i.i * c.args.width < c.args.image.len = ceil_inside c.args.image.len c.args.width c.loop-i.i c.requires.size.0 (omega (arith, c.requires.size.3)) in
     omega (arith, starts)
 
 pub loop-i-preserved : goal.loop-i-preserved
 unfolding line_at part_bits
 loop-i-preserved c =
     let line : List ℕ = let a = c.args in
-    line_text a.kind a.image.now a.bits (c.loop-i.i * a.width) (part_bits a.bits a.width c.loop-i.i) in
-    let written : (let a = c.args in line_text a.kind a.image.now a.bits c.loop-i.offset c.smaller-count.result) ≡ line = rw (c.smaller-count.ensures, c.loop-i.invariant.2) in
+    line_text a.kind a.image.bytes.now a.image.len (c.loop-i.i * a.width) (part_bits a.image.len a.width c.loop-i.i) in
+    let written : (let a = c.args in line_text a.kind a.image.bytes.now a.image.len c.loop-i.offset c.min-count.result) ≡ line = rw (c.min-count.ensures, c.loop-i.invariant.2) in
     let a = c.args in
     let i = c.loop-i.i in
     let put-line = rw (written) at c.put_line-next.ensures in

@@ -16,6 +16,6 @@ returns-then-count-gt56 c e = absurd (true≢false (sym e))
 
 pub returns : goal.returns
 returns c e =
-    let reach = leb-true (c.args.from / 8 + 8) c.smaller.result e in
-    let least = c.smaller.ensures in
+    let reach = leb-true (c.args.from / 8 + 8) c.min.result e in
+    let least = c.min.ensures in
     (search rules, search rules, omega (arith, reach, least), omega (arith, reach, least))

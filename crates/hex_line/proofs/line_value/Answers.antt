@@ -20,10 +20,10 @@ nonzero_rem-result c =
 pub returns : goal.returns
 returns c =
     let a = c.args in
-    let bytes = a.bytes.now in
+    let bytes = a.image.bytes.now in
     let i = a.from in
     let behind = 64 - (i % 8 + a.count) in
     let place : i / 8 * 8 + i % 8 ≡ i = omega arith in
     let all : i % 8 + a.count + behind ≡ 64 = omega (arith, c.requires.small.1) in
-    let cut = bits_cut bytes a.len (8 * length bytes) (i / 8 * 8) (i % 8) a.count behind (omega (arith, c.requires.small.1, c.requires.inside.0)) (omega (arith, c.requires.small.1, c.requires.inside.1)) in
+    let cut = bits_cut bytes a.image.len (8 * length bytes) (i / 8 * 8) (i % 8) a.count behind (omega (arith, c.requires.small.1, c.requires.inside.0)) (omega (arith, c.requires.small.1, c.requires.inside.1)) in
     rw (base a.count c.requires.small.1, c.read_word-word.ensures) (sym (rw (all, place) at cut))

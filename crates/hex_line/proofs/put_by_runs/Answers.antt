@@ -12,7 +12,7 @@ pub put_run-requires : goal.put_run-requires
 put_run-requires c =
     let a = c.args in
     let wrote = c.put_short-next.ensures.next in
-    (search rules, omega arith, omega (arith, short_length a.bytes.now a.len (a.count % 4) a.from.0))
+    (search rules, omega arith, omega (arith, short_length a.image.bytes.now a.image.len (a.count % 4) a.from.0))
 
 pub returns : goal.returns
 unfolding hex_line

@@ -22,4 +22,4 @@ put_value-requires c =
 pub returns-then-in_word : goal.returns-then-in_word
 returns-then-in_word c =
     let a = c.args in
-    rw (line_number a.bytes.now a.len a.from.0 a.count, ← c.line_value-value.ensures) c.put_value.ensures
+    rw (line_number a.image.bytes.now a.image.len a.from.0 a.count, ← c.line_value-value.ensures) c.put_value.ensures

@@ -10,5 +10,5 @@ column_hex-requires c = rw c.copy_columns-columns.ensures (columns_room c.args.s
 
 pub returns : goal.returns
 returns c =
-    let few = hex_few c.args.image.now c.args.bits c.args.spans.now c.args.address_unit (length c.args.out.now) in
+    let few = hex_few c.args.image.bytes.now c.args.image.len c.args.spans.now c.args.address_unit (length c.args.out.now) in
     rw (← few, ← c.copy_columns-columns.ensures) c.column_hex.ensures

@@ -15,8 +15,8 @@ loop-k-init c =
     let a = c.args in (
       search rules,
       omega arith,
-      rw (bytes_none a.bytes.now a.len a.from.0) (omega arith),
-      rw (bytes_none a.bytes.now a.len a.from.0, hex_none) (writes_nothing a.out.now a.at),
+      rw (bytes_none a.image.bytes.now a.image.len a.from.0) (omega arith),
+      rw (bytes_none a.image.bytes.now a.image.len a.from.0, hex_none) (writes_nothing a.out.now a.at),
       refl,
     )
 
@@ -26,12 +26,12 @@ loop-k-preserved c =
     let l = c.loop-k in
     let a = c.args in
     let byte = c.read_byte-byte.result in
-    let done = bytes_from a.bytes.now a.len a.from.0 l.k in (
+    let done = bytes_from a.image.bytes.now a.image.len a.from.0 l.k in (
       search rules,
       omega (arith, c.put_byte-next.ensures.next),
-      rw (bytes_next a.bytes.now a.len a.from.0 l.k, total_append done (bits_at a.bytes.now a.len (a.from.0 + 8 * l.k) 8 ∷ []), ← c.read_byte-byte.ensures)
+      rw (bytes_next a.image.bytes.now a.image.len a.from.0 l.k, total_append done (bits_at a.image.bytes.now a.image.len (a.from.0 + 8 * l.k) 8 ∷ []), ← c.read_byte-byte.ensures)
           (omega (arith, c.wrapping_add_u8-added.ensures)),
-      rw (bytes_next a.bytes.now a.len a.from.0 l.k, hex_append done (bits_at a.bytes.now a.len (a.from.0 + 8 * l.k) 8 ∷ []), hex_one, ← c.read_byte-byte.ensures)
+      rw (bytes_next a.image.bytes.now a.image.len a.from.0 l.k, hex_append done (bits_at a.image.bytes.now a.image.len (a.from.0 + 8 * l.k) 8 ∷ []), hex_one, ← c.read_byte-byte.ensures)
           (writes_then l.invariant.3 c.put_byte-next.ensures),
       search rules,
     )

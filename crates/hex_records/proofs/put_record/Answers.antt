@@ -23,18 +23,18 @@ overflow_add-data c =
 
 pub put_byte-end-requires : goal.put_byte-end-requires
 put_byte-end-requires c =
-    let data_written : let a = c.args in let d = bytes_from a.bytes.now a.len a.from.0 a.count in Writes (hex_bytes d) c.put_head-data.new.out c.put_head-data.result c.put_data-sum.new.out (c.put_head-data.result + 2 * a.count) = let a = c.args in
-    let d = bytes_from a.bytes.now a.len a.from.0 a.count in
-    record { next = omega (arith, hex_length d, bytes_length a.bytes.now a.len a.from.0 a.count); stored = c.put_data-sum.ensures.stored } in
+    let data_written : let a = c.args in let d = bytes_from a.image.bytes.now a.image.len a.from.0 a.count in Writes (hex_bytes d) c.put_head-data.new.out c.put_head-data.result c.put_data-sum.new.out (c.put_head-data.result + 2 * a.count) = let a = c.args in
+    let d = bytes_from a.image.bytes.now a.image.len a.from.0 a.count in
+    record { next = omega (arith, hex_length d, bytes_length a.image.bytes.now a.image.len a.from.0 a.count); stored = c.put_data-sum.ensures.stored } in
     let h = c.put_head-data.ensures in
     omega (arith, h.next, hex_length (c.args.count ∷ c.args.address.0 / 256 ∷ c.args.address.0 % 256 ∷ 0 ∷ []), writes_length h, writes_length (data_written), c.requires.room)
 
 pub put-requires : goal.put-requires
 unfolding byte_text
 put-requires c =
-    let data_written : let a = c.args in let d = bytes_from a.bytes.now a.len a.from.0 a.count in Writes (hex_bytes d) c.put_head-data.new.out c.put_head-data.result c.put_data-sum.new.out (c.put_head-data.result + 2 * a.count) = let a = c.args in
-    let d = bytes_from a.bytes.now a.len a.from.0 a.count in
-    record { next = omega (arith, hex_length d, bytes_length a.bytes.now a.len a.from.0 a.count); stored = c.put_data-sum.ensures.stored } in
+    let data_written : let a = c.args in let d = bytes_from a.image.bytes.now a.image.len a.from.0 a.count in Writes (hex_bytes d) c.put_head-data.new.out c.put_head-data.result c.put_data-sum.new.out (c.put_head-data.result + 2 * a.count) = let a = c.args in
+    let d = bytes_from a.image.bytes.now a.image.len a.from.0 a.count in
+    record { next = omega (arith, hex_length d, bytes_length a.image.bytes.now a.image.len a.from.0 a.count); stored = c.put_data-sum.ensures.stored } in
     let h = c.put_head-data.ensures in
     let b = c.put_byte-end.ensures in
     omega (arith, h.next, hex_length (c.args.count ∷ c.args.address.0 / 256 ∷ c.args.address.0 % 256 ∷ 0 ∷ []), writes_length h, writes_length (data_written), b.next, writes_length b, c.requires.room)
@@ -42,19 +42,19 @@ put-requires c =
 pub returns : goal.returns
 unfolding record_bytes
 returns c =
-    let checked : let a = c.args in c.wrapping_sub_u8.result ≡ checksum (record_bytes a.bytes.now a.len (record { address = a.address.0; from = a.from.0; count = a.count })) = let a = c.args in
+    let checked : let a = c.args in c.wrapping_sub_u8.result ≡ checksum (record_bytes a.image.bytes.now a.image.len (record { address = a.address.0; from = a.from.0; count = a.count })) = let a = c.args in
     let head : List ℕ = a.count ∷ a.address.0 / 256 ∷ a.address.0 % 256 ∷ 0 ∷ [] in
-    let d = bytes_from a.bytes.now a.len a.from.0 a.count in
+    let d = bytes_from a.image.bytes.now a.image.len a.from.0 a.count in
     checksum_is (head ++ d) c.put_data-sum.result c.wrapping_sub_u8.result
     (omega (arith, c.put_data-sum.ensures.sum, c.head_sum.ensures, total_append head d))
     (omega (arith, c.wrapping_sub_u8.type_inv))
     c.wrapping_sub_u8.ensures.value in
-    let data_written : let a = c.args in let d = bytes_from a.bytes.now a.len a.from.0 a.count in Writes (hex_bytes d) c.put_head-data.new.out c.put_head-data.result c.put_data-sum.new.out (c.put_head-data.result + 2 * a.count) = let a = c.args in
-    let d = bytes_from a.bytes.now a.len a.from.0 a.count in
-    record { next = omega (arith, hex_length d, bytes_length a.bytes.now a.len a.from.0 a.count); stored = c.put_data-sum.ensures.stored } in
+    let data_written : let a = c.args in let d = bytes_from a.image.bytes.now a.image.len a.from.0 a.count in Writes (hex_bytes d) c.put_head-data.new.out c.put_head-data.result c.put_data-sum.new.out (c.put_head-data.result + 2 * a.count) = let a = c.args in
+    let d = bytes_from a.image.bytes.now a.image.len a.from.0 a.count in
+    record { next = omega (arith, hex_length d, bytes_length a.image.bytes.now a.image.len a.from.0 a.count); stored = c.put_data-sum.ensures.stored } in
     let a = c.args in
     let chunk : Chunk = record { address = a.address.0; from = a.from.0; count = a.count } in
-    let sum : Writes (byte_text Upper (checksum (record_bytes a.bytes.now a.len chunk))) c.put_data-sum.new.out (c.put_head-data.result + 2 * a.count) c.put_byte-end.new.out c.put_byte-end.result =
+    let sum : Writes (byte_text Upper (checksum (record_bytes a.image.bytes.now a.image.len chunk))) c.put_data-sum.new.out (c.put_head-data.result + 2 * a.count) c.put_byte-end.new.out c.put_byte-end.result =
     rw (← checked) c.put_byte-end.ensures in
-    rw (record_parts a.bytes.now a.len chunk)
+    rw (record_parts a.image.bytes.now a.image.len chunk)
     (writes_then c.put_head-data.ensures (writes_then (data_written) (writes_then sum c.put.ensures)))

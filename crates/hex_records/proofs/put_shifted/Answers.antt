@@ -15,8 +15,8 @@ loop-k-init c =
     let a = c.args in (
       search rules,
       omega arith,
-      rw (bytes_none a.bytes.now a.len (a.first * 8 + a.shift)) (omega arith),
-      rw (bytes_none a.bytes.now a.len (a.first * 8 + a.shift), hex_none) (writes_nothing a.out.now a.at),
+      rw (bytes_none a.image.bytes.now a.image.len (a.first * 8 + a.shift)) (omega arith),
+      rw (bytes_none a.image.bytes.now a.image.len (a.first * 8 + a.shift), hex_none) (writes_nothing a.out.now a.at),
       refl,
     )
 
@@ -27,9 +27,9 @@ loop-k-preserved c =
     let a = c.args in
     let from = a.first * 8 + a.shift in
     let place : (a.first + l.k) * 8 + a.shift ≡ from + 8 * l.k = omega arith in
-    let byte : c.read_across-byte.result ≡ bits_at a.bytes.now a.len (from + 8 * l.k) 8 = rw place at c.read_across-byte.ensures in
-    let done = bytes_from a.bytes.now a.len from l.k in
-    let next = bytes_next a.bytes.now a.len from l.k in (
+    let byte : c.read_across-byte.result ≡ bits_at a.image.bytes.now a.image.len (from + 8 * l.k) 8 = rw place at c.read_across-byte.ensures in
+    let done = bytes_from a.image.bytes.now a.image.len from l.k in
+    let next = bytes_next a.image.bytes.now a.image.len from l.k in (
       search rules,
       omega (arith, c.put_byte-next.ensures.next),
       rw (next, ← byte, total_append done (c.read_across-byte.result ∷ [])) (omega (arith, c.wrapping_add_u8-added.ensures)),

@@ -6,8 +6,8 @@ use Rattle.hex_records.proofs.put_shifted.Given as goal
 abbrev pub invariant-loop-k : goal.invariant-loop-k
 invariant-loop-k l = (l.k ≤ l.count)
     × (l.next ≡ l.at + 2 * l.k)
-    × (l.added ≡ (l.sum + total (bytes_from l.bytes l.len (l.first * 8 + l.shift) l.k)) % 256)
-    × Writes (hex_bytes (bytes_from l.bytes l.len (l.first * 8 + l.shift) l.k)) l.initial.out l.at l.out l.next
+    × (l.added ≡ (l.sum + total (bytes_from l.image.bytes.now l.image.len (l.first * 8 + l.shift) l.k)) % 256)
+    × Writes (hex_bytes (bytes_from l.image.bytes.now l.image.len (l.first * 8 + l.shift) l.k)) l.initial.out l.at l.out l.next
     × (length l.out ≡ length l.initial.out)
 
 abbrev pub decreases-loop-k : goal.decreases-loop-k

@@ -14,8 +14,8 @@ loop-k-init c =
     let a = c.args in (
       search rules,
       omega arith,
-      rw (bytes_none a.bytes.now a.len (a.first * 8)) (omega arith),
-      rw (bytes_none a.bytes.now a.len (a.first * 8), hex_none) (writes_nothing a.out.now a.at),
+      rw (bytes_none a.image.bytes.now a.image.len (a.first * 8)) (omega arith),
+      rw (bytes_none a.image.bytes.now a.image.len (a.first * 8), hex_none) (writes_nothing a.out.now a.at),
       refl,
     )
 
@@ -24,13 +24,13 @@ unfolding byte_text total
 loop-k-preserved c =
     let l = c.loop-k in
     let a = c.args in
-    let byte = whole_byte a.bytes.now a.len a.first l.k (omega arith) (c.type_inv.bytes (a.first + l.k)).fits in
-    let done = bytes_from a.bytes.now a.len (a.first * 8) l.k in
-    let next = bytes_next a.bytes.now a.len (a.first * 8) l.k in (
+    let byte = whole_byte a.image.bytes.now a.image.len a.first l.k (omega arith) (search rules) in
+    let done = bytes_from a.image.bytes.now a.image.len (a.first * 8) l.k in
+    let next = bytes_next a.image.bytes.now a.image.len (a.first * 8) l.k in (
       search rules,
       omega (arith, c.put_byte-next.ensures.next),
-      rw (next, byte, total_append done (get_or a.bytes.now (a.first + l.k) 0 ∷ [])) (omega (arith, c.wrapping_add_u8-added.ensures)),
-      rw (next, byte, hex_append done (get_or a.bytes.now (a.first + l.k) 0 ∷ []), hex_one) (writes_then l.invariant.3 c.put_byte-next.ensures),
+      rw (next, byte, total_append done (get_or a.image.bytes.now (a.first + l.k) 0 ∷ [])) (omega (arith, c.wrapping_add_u8-added.ensures)),
+      rw (next, byte, hex_append done (get_or a.image.bytes.now (a.first + l.k) 0 ∷ []), hex_one) (writes_then l.invariant.3 c.put_byte-next.ensures),
       search rules,
     )
 

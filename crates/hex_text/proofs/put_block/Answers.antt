@@ -14,7 +14,7 @@ put_single-requires c =
     let is = c.is_single.ensures c.if-is_single.true in
     let b : Block = record { offset = a.offset; size = a.size } in
     let low : Each (λ (k : Chunk). k.address ≤ 65535) (single a.unit b ∷ []) = rw (block_single a.unit b is.1 is.2) at c.requires.low in
-    let size = ap length (text_single a.bytes.now a.len a.unit b is.1 is.2) ∙ record_length a.bytes.now a.len (single a.unit b) in
+    let size = ap length (text_single a.image.bytes.now a.image.len a.unit b is.1 is.2) ∙ record_length a.image.bytes.now a.image.len (single a.unit b) in
     let within = c.requires.lent.0 a.offset is.0 in record { inside = (c.requires.lent.1 (omega (arith, is.0)), within.0, within.1); room = (rw c.address_of-address.ensures low.0, omega (arith, size, c.requires.room)) }
 
 pub returns-then-is_single : goal.returns-then-is_single
@@ -22,4 +22,4 @@ returns-then-is_single c =
     let a = c.args in
     let is = c.is_single.ensures c.if-is_single.true in
     let b : Block = record { offset = a.offset; size = a.size } in
-    rw (text_single a.bytes.now a.len a.unit b is.1 is.2, ← c.address_of-address.ensures) c.put_single.ensures
+    rw (text_single a.image.bytes.now a.image.len a.unit b is.1 is.2, ← c.address_of-address.ensures) c.put_single.ensures

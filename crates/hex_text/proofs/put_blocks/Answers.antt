@@ -25,11 +25,11 @@ overflow_cast-sizes c = record { fits = omega (arith, (c.type_inv.sizes c.loop-k
 
 pub put_block-next-requires : goal.put_block-next-requires
 put_block-next-requires c =
-    let measured : let a = c.args in length (pieces (texts a.bytes.now a.len a.unit a.offsets.now a.sizes.now) (length a.offsets.now)) ≤ length a.out.now = let a = c.args in
-    rw (← plan_pieces a.bytes.now a.len a.unit a.offsets.now a.sizes.now) c.requires.room in
+    let measured : let a = c.args in length (pieces (texts a.image.bytes.now a.image.len a.unit a.offsets.now a.sizes.now) (length a.offsets.now)) ≤ length a.out.now = let a = c.args in
+    rw (← plan_pieces a.image.bytes.now a.image.len a.unit a.offsets.now a.sizes.now) c.requires.room in
     let l = c.loop-k in
     let a = c.args in
-    let f = texts a.bytes.now a.len a.unit a.offsets.now a.sizes.now in
+    let f = texts a.image.bytes.now a.image.len a.unit a.offsets.now a.sizes.now in
     let room = pieces_room f l.k (length a.offsets.now) (omega arith) in record { small = (c.requires.lent.0, (c.type_inv.offsets l.k).fits, (c.type_inv.sizes l.k).fits); low = plan_each (λ k. k.address ≤ 65535) a.unit a.offsets.now a.sizes.now c.requires.low l.k (omega arith); room = omega (arith, room, measured, l.invariant.1.next, l.invariant.2); lent = c.requires.digits }
 
 pub loop-k-preserved : goal.loop-k-preserved
@@ -45,4 +45,4 @@ returns c =
     let a = c.args in
     let l = c.loop-k in
     let done : l.k ≡ length a.offsets.now = omega arith in
-    rw (plan_pieces a.bytes.now a.len a.unit a.offsets.now a.sizes.now, ← done) l.invariant.1
+    rw (plan_pieces a.image.bytes.now a.image.len a.unit a.offsets.now a.sizes.now, ← done) l.invariant.1

@@ -12,7 +12,7 @@ abbrev texts : List ℕ → ℕ → ℕ → List ℕ → List ℕ → ℕ → Li
 texts bytes len unit offsets sizes k = flat_map (record_text bytes len) (block_plan unit (block_at offsets sizes k))
 
 abbrev pub invariant-loop-k : goal.invariant-loop-k
-invariant-loop-k l = (l.k ≤ length l.offsets) × Writes (pieces (texts l.bytes l.len l.unit l.offsets l.sizes) l.k) l.initial.out 0 l.out l.next × (length l.out ≡ length l.initial.out)
+invariant-loop-k l = (l.k ≤ length l.offsets) × Writes (pieces (texts l.image.bytes.now l.image.len l.unit l.offsets l.sizes) l.k) l.initial.out 0 l.out l.next × (length l.out ≡ length l.initial.out)
 
 abbrev pub decreases-loop-k : goal.decreases-loop-k
 decreases-loop-k l = length l.offsets - l.k

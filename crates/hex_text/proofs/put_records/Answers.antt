@@ -53,7 +53,7 @@ overflow_sub-count c =
 pub put_record-next-requires : goal.put_record-next-requires
 unfolding chunk_at
 put_record-next-requires c =
-    let planned : let a = c.args in let l = c.loop-n in record { address = c.address-address.result.0; from = a.offset + 256 * l.n; count = c.smaller-held.result } ≡ chunk_at a.unit (record { offset = a.offset; size = a.size }) l.n = rw (c.address-address.ensures, c.smaller-held.ensures, c.parts-count.ensures) in
+    let planned : let a = c.args in let l = c.loop-n in record { address = c.address-address.result.0; from = a.offset + 256 * l.n; count = c.min-held.result } ≡ chunk_at a.unit (record { offset = a.offset; size = a.size }) l.n = rw (c.address-address.ensures, c.min-held.ensures, c.parts-count.ensures) in
     let inside : (c.loop-n.n * 32 < c.parts-count.result) × (c.parts-count.result ≤ c.args.size) = let bytes = c.parts-count.result in (
       ceil_inside bytes 32 c.loop-n.n (omega arith) (omega (arith, c.parts-records.ensures)),
       rw c.parts-count.ensures (ceil_most c.args.size 8 (omega arith)),
@@ -61,21 +61,21 @@ put_record-next-requires c =
     let a = c.args in
     let l = c.loop-n in
     let b : Block = record { offset = a.offset; size = a.size } in
-    let f : ℕ → List ℕ = λ n. record_text a.bytes.now a.len (chunk_at a.unit b n) in
+    let f : ℕ → List ℕ = λ n. record_text a.image.bytes.now a.image.len (chunk_at a.unit b n) in
     let records = ceil_div (ceil_div a.size 8) 32 in
     let more : l.n < records = rw (← c.parts-count.ensures, ← c.parts-records.ensures) c.loop-n-test.true in
     let chunk = planned in
-    let count : c.smaller-held.result ≤ 32 = omega (arith, c.smaller-held.ensures) in
+    let count : c.min-held.result ≤ 32 = omega (arith, c.min-held.ensures) in
     let low : c.address-address.result.0 ≤ 65535 =
     rw (ap (λ (k : Chunk). k.address) chunk) (block_each (λ k. k.address ≤ 65535) a.unit b c.requires.low l.n more) in
-    let size : length (f l.n) ≡ 12 + 2 * c.smaller-held.result =
-    record_length a.bytes.now a.len (chunk_at a.unit b l.n) ∙ ap (λ (k : Chunk). 12 + 2 * k.count) (sym chunk) in
-    let whole = ap length (block_pieces a.bytes.now a.len a.unit b) in record { small = (omega (arith, count), low, omega (arith, count, inside, c.requires.small)); room = omega (arith, pieces_room f l.n records more, size, whole, l.invariant.1.next, l.invariant.2, c.requires.room) }
+    let size : length (f l.n) ≡ 12 + 2 * c.min-held.result =
+    record_length a.image.bytes.now a.image.len (chunk_at a.unit b l.n) ∙ ap (λ (k : Chunk). 12 + 2 * k.count) (sym chunk) in
+    let whole = ap length (block_pieces a.image.bytes.now a.image.len a.unit b) in record { small = (omega (arith, count), low, omega (arith, count, inside, c.requires.small)); room = omega (arith, pieces_room f l.n records more, size, whole, l.invariant.1.next, l.invariant.2, c.requires.room) }
 
 pub loop-n-preserved : goal.loop-n-preserved
 unfolding chunk_at
 loop-n-preserved c =
-    let planned : let a = c.args in let l = c.loop-n in record { address = c.address-address.result.0; from = a.offset + 256 * l.n; count = c.smaller-held.result } ≡ chunk_at a.unit (record { offset = a.offset; size = a.size }) l.n = rw (c.address-address.ensures, c.smaller-held.ensures, c.parts-count.ensures) in
+    let planned : let a = c.args in let l = c.loop-n in record { address = c.address-address.result.0; from = a.offset + 256 * l.n; count = c.min-held.result } ≡ chunk_at a.unit (record { offset = a.offset; size = a.size }) l.n = rw (c.address-address.ensures, c.min-held.ensures, c.parts-count.ensures) in
     let a = c.args in
     let l = c.loop-n in (
       search rules,
@@ -89,4 +89,4 @@ returns c =
     let l = c.loop-n in
     let b : Block = record { offset = a.offset; size = a.size } in
     let done : l.n ≡ ceil_div (ceil_div a.size 8) 32 = rw (← c.parts-count.ensures, ← c.parts-records.ensures) (omega arith) in
-    rw (block_pieces a.bytes.now a.len a.unit b, ← done) l.invariant.1
+    rw (block_pieces a.image.bytes.now a.image.len a.unit b, ← done) l.invariant.1

@@ -7,7 +7,7 @@ use Rattle.hex_text.proofs.put_records.Given as goal
 
 abbrev pub invariant-loop-n : goal.invariant-loop-n
 invariant-loop-n l = (l.n ≤ l.records)
-    × Writes (pieces (λ k. record_text l.bytes l.len (chunk_at l.unit (record { offset = l.offset; size = l.size }) k)) l.n) l.initial.out l.at l.out l.next
+    × Writes (pieces (λ k. record_text l.image.bytes.now l.image.len (chunk_at l.unit (record { offset = l.offset; size = l.size }) k)) l.n) l.initial.out l.at l.out l.next
     × (length l.out ≡ length l.initial.out)
 
 abbrev pub decreases-loop-n : goal.decreases-loop-n

@@ -35,6 +35,6 @@ returns c =
     let a = c.args in
     let from = a.from.0 in
     let place : from / 8 * 8 + from % 8 ≡ from = omega arith in
-    let read : c.read_across-byte.result ≡ bits_at a.bytes.now a.len from 8 = rw place at c.read_across-byte.ensures in
-    rw (single_parts a.bytes.now a.len a.address.0 from, ← read, ← c.single_check-check.ensures)
+    let read : c.read_across-byte.result ≡ bits_at a.image.bytes.now a.image.len from 8 = rw place at c.read_across-byte.ensures in
+    rw (single_parts a.image.bytes.now a.image.len a.address.0 from, ← read, ← c.single_check-check.ensures)
     (writes_then c.put_single_head-data.ensures (writes_then c.put_pair-sum.ensures (writes_then c.put_pair-end.ensures c.put.ensures)))

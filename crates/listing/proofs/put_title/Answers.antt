@@ -19,21 +19,21 @@ returns-then-addr_base-eq16 c = rw (title_16 _ c.if-addr_base-eq16.true) c.put_r
 
 pub put_all-next-requires : goal.put_all-next-requires
 put_all-next-requires c =
-    omega (arith, length-replicate {A = ℕ} c.free-free.result 32, title_other_length c.args.addr_base c.if-addr_base-eq16.false)
+    omega (arith, length-replicate {A = ℕ} c.saturating_sub-free.result 32, title_other_length c.args.addr_base c.if-addr_base-eq16.false)
 
 pub put_number-next-requires : goal.put_number-next-requires
 put_number-next-requires c =
-    (omega arith, omega arith, omega (arith, length-replicate {A = ℕ} c.free-free.result 32, title_other_length c.args.addr_base c.if-addr_base-eq16.false))
+    (omega arith, omega arith, omega (arith, length-replicate {A = ℕ} c.saturating_sub-free.result 32, title_other_length c.args.addr_base c.if-addr_base-eq16.false))
 
 pub put_all-requires : goal.put_all-requires
 put_all-requires c =
     let title = title_other_length c.args.addr_base c.if-addr_base-eq16.false in
-    omega (arith, length-replicate {A = ℕ} c.free-free.result 32, number_length Lower 10 c.args.addr_base)
+    omega (arith, length-replicate {A = ℕ} c.saturating_sub-free.result 32, number_length Lower 10 c.args.addr_base)
 
 pub returns : goal.returns
 unfolding padded
 returns c =
-    let filled = rw (c.free-free.ensures, c.title_length.ensures.0) at c.put_fill-next.ensures in
+    let filled = rw (c.saturating_sub-free.ensures, c.title_length.ensures.0) at c.put_fill-next.ensures in
     writes_then filled
     (rw (title_other _ c.if-addr_base-eq16.false)
     (writes_then c.put_all-next.ensures

@@ -23,9 +23,9 @@ returns c =
     let byte = count_small c.args.options.addr_base radix 63 (c.args.offset / 8) (omega arith) in
     let bit = count_small c.args.options.addr_base radix 63 (c.args.offset % 8) (omega arith) in
     let address = count_small c.args.options.addr_base radix 63 c.args.addr (omega arith) in (
-      rw (c.larger.ensures, c.larger-2.ensures, c.larger-3.ensures, c.larger-4.ensures, c.digit_count-byte.ensures, c.digit_count-bit.ensures, c.digit_count-address.ensures, c.content_need-content.ensures.0),
-      omega (arith, c.larger.ensures, c.digit_count-byte.ensures),
-      omega (arith, c.larger-2.ensures, c.digit_count-bit.ensures),
-      omega (arith, c.larger-3.ensures, c.digit_count-address.ensures),
-      omega (arith, c.larger-4.ensures, c.content_need-content.ensures.1),
+      rw (c.max.ensures, c.max-2.ensures, c.max-3.ensures, c.max-4.ensures, c.digit_count-byte.ensures, c.digit_count-bit.ensures, c.digit_count-address.ensures, c.content_need-content.ensures.0),
+      omega (arith, c.max.ensures, c.digit_count-byte.ensures),
+      omega (arith, c.max-2.ensures, c.digit_count-bit.ensures),
+      omega (arith, c.max-3.ensures, c.digit_count-address.ensures),
+      omega (arith, c.max-4.ensures, c.content_need-content.ensures.1),
     )

@@ -82,33 +82,33 @@ put_groups-next-requires c =
     let g = a.options.digits_per_group in
     let n = c.groups_inside-whole.result in
     let inside = c.groups_inside-whole.ensures in
-    let known = counted a.options a.size w _ _ n c.requires.0 (omega arith) c.base_bits-width.ensures c.parts-count.ensures c.free.ensures inside.0 in
-    let parts = parts_of a.options a.image.now a.bits a.offset a.size w _ _ n c.requires.0 c.base_bits-width.ensures c.parts-count.ensures c.free.ensures inside.0 (λ h. (inside.1 h).0) in
-    let texts = length-append (groups a.image.now a.bits w g a.offset n) (spaced a.image.now a.bits w g (a.offset + n * (g * w)) (c.parts-count.result - n * g)) in
+    let known = counted a.options a.size w _ _ n c.requires.0 (omega arith) c.base_bits-width.ensures c.parts-count.ensures c.saturating_sub.ensures inside.0 in
+    let parts = parts_of a.options a.image.bytes.now a.image.len a.offset a.size w _ _ n c.requires.0 c.base_bits-width.ensures c.parts-count.ensures c.saturating_sub.ensures inside.0 (λ h. (inside.1 h).0) in
+    let texts = length-append (groups a.image.bytes.now a.image.len w g a.offset n) (spaced a.image.bytes.now a.image.len w g (a.offset + n * (g * w)) (c.parts-count.result - n * g)) in
     record {
       small = (known.few, omega arith);
       inside = inside.1;
-      room = omega (arith, texts, ap length parts, groups_length a.image.now a.bits w g a.offset n, c.requires.1);
+      room = omega (arith, texts, ap length parts, groups_length a.image.bytes.now a.image.len w g a.offset n, c.requires.1);
     }
 
 pub overflow_mul-done : goal.overflow_mul-done
 overflow_mul-done c =
-    let known = counted c.args.options c.args.size _ _ _ _ c.requires.0 (omega arith) c.base_bits-width.ensures c.parts-count.ensures c.free.ensures c.groups_inside-whole.ensures.0 in
+    let known = counted c.args.options c.args.size _ _ _ _ c.requires.0 (omega arith) c.base_bits-width.ensures c.parts-count.ensures c.saturating_sub.ensures c.groups_inside-whole.ensures.0 in
     omega arith
 
 pub overflow_mul-behind : goal.overflow_mul-behind
 overflow_mul-behind c =
-    let known = counted c.args.options c.args.size _ _ _ _ c.requires.0 (omega arith) c.base_bits-width.ensures c.parts-count.ensures c.free.ensures c.groups_inside-whole.ensures.0 in
+    let known = counted c.args.options c.args.size _ _ _ _ c.requires.0 (omega arith) c.base_bits-width.ensures c.parts-count.ensures c.saturating_sub.ensures c.groups_inside-whole.ensures.0 in
     omega arith
 
 pub overflow_add-behind : goal.overflow_add-behind
 overflow_add-behind c =
-    let known = counted c.args.options c.args.size _ _ _ _ c.requires.0 (omega arith) c.base_bits-width.ensures c.parts-count.ensures c.free.ensures c.groups_inside-whole.ensures.0 in
+    let known = counted c.args.options c.args.size _ _ _ _ c.requires.0 (omega arith) c.base_bits-width.ensures c.parts-count.ensures c.saturating_sub.ensures c.groups_inside-whole.ensures.0 in
     omega arith
 
 pub overflow_sub-count : goal.overflow_sub-count
 overflow_sub-count c =
-    let known = counted c.args.options c.args.size _ _ _ _ c.requires.0 (omega arith) c.base_bits-width.ensures c.parts-count.ensures c.free.ensures c.groups_inside-whole.ensures.0 in
+    let known = counted c.args.options c.args.size _ _ _ _ c.requires.0 (omega arith) c.base_bits-width.ensures c.parts-count.ensures c.saturating_sub.ensures c.groups_inside-whole.ensures.0 in
     omega arith
 
 pub put_last-requires : goal.put_last-requires
@@ -119,19 +119,19 @@ put_last-requires c =
     let n = c.groups_inside-whole.result in
     let count = c.parts-count.result in
     let inside = c.groups_inside-whole.ensures in
-    let known = counted a.options a.size w _ _ n c.requires.0 (omega arith) c.base_bits-width.ensures c.parts-count.ensures c.free.ensures inside.0 in
-    let parts = parts_of a.options a.image.now a.bits a.offset a.size w _ _ n c.requires.0 c.base_bits-width.ensures c.parts-count.ensures c.free.ensures inside.0 (λ h. (inside.1 h).0) in
+    let known = counted a.options a.size w _ _ n c.requires.0 (omega arith) c.base_bits-width.ensures c.parts-count.ensures c.saturating_sub.ensures inside.0 in
+    let parts = parts_of a.options a.image.bytes.now a.image.len a.offset a.size w _ _ n c.requires.0 c.base_bits-width.ensures c.parts-count.ensures c.saturating_sub.ensures inside.0 (λ h. (inside.1 h).0) in
     let left : (count - n * g) * w ≤ count * w = mul-le-mul_right w (omega arith) in
     let place = mul_assoc n g w in
     record {
       small = (known.few, known.some, omega (arith, left, known.reach, known.all));
-      room = rw place (room_then (spaced a.image.now a.bits w g (a.offset + n * (g * w)) (count - n * g)) c.put_groups-next.ensures (rw parts at c.requires.1));
+      room = rw place (room_then (spaced a.image.bytes.now a.image.len w g (a.offset + n * (g * w)) (count - n * g)) c.put_groups-next.ensures (rw parts at c.requires.1));
     }
 
 pub returns : goal.returns
 returns c =
     let a = c.args in
     let inside = c.groups_inside-whole.ensures in
-    let parts = parts_of a.options a.image.now a.bits a.offset a.size _ _ _ _ c.requires.0 c.base_bits-width.ensures c.parts-count.ensures c.free.ensures inside.0 (λ h. (inside.1 h).0) in
+    let parts = parts_of a.options a.image.bytes.now a.image.len a.offset a.size _ _ _ _ c.requires.0 c.base_bits-width.ensures c.parts-count.ensures c.saturating_sub.ensures inside.0 (λ h. (inside.1 h).0) in
     let place = mul_assoc c.groups_inside-whole.result a.options.digits_per_group c.base_bits-width.result in
     rw parts (writes_then c.put_groups-next.ensures (rw place at c.put_last.ensures))

@@ -27,7 +27,7 @@ put_shifted-requires c =
 pub returns-then-count-image : goal.returns-then-count-image
 returns-then-count-image c =
     let a = c.args in
-    let same = groups_shifted a.kind a.image.now a.bits a.width a.group a.from.0 a.size a.count c.requires.kind.0 c.requires.kind.1 c.if-size-eq1.true in
+    let same = groups_shifted a.kind a.image.bytes.now a.image.len a.width a.group a.from.0 a.size a.count c.requires.kind.0 c.requires.kind.1 c.if-size-eq1.true in
     rw same c.put_shifted.ensures
 
 pub put_rows-requires : goal.put_rows-requires
@@ -39,7 +39,7 @@ put_rows-requires c =
 pub returns-then-start-eq0 : goal.returns-then-start-eq0
 returns-then-start-eq0 c =
     let a = c.args in
-    let same = groups_rows a.kind a.image.now a.bits a.width a.group a.from.0 a.size a.count c.requires.kind.0 c.requires.kind.1 c.if-start-eq0.true in
+    let same = groups_rows a.kind a.image.bytes.now a.image.len a.width a.group a.from.0 a.size a.count c.requires.kind.0 c.requires.kind.1 c.if-start-eq0.true in
     rw same c.put_rows.ensures
 
 pub put_runs-requires : goal.put_runs-requires

@@ -15,13 +15,13 @@ loop-k-init c = (search rules, rw (zero-mul, add-zero), rw (spaced_none _ _ _ _ 
 pub put_between-next-requires : goal.put_between-next-requires
 put_between-next-requires c =
     let a = c.args in
-    let room = spaced_room a.image.now a.bits a.width a.group a.from.0 c.loop-k.k a.count c.loop-k-test.true in
+    let room = spaced_room a.image.bytes.now a.image.len a.width a.group a.from.0 c.loop-k.k a.count c.loop-k-test.true in
     (c.requires.small.1, omega arith)
 
 pub put_content_digit-next-requires : goal.put_content_digit-next-requires
 put_content_digit-next-requires c =
     let a = c.args in
-    let room = spaced_room a.image.now a.bits a.width a.group a.from.0 c.loop-k.k a.count c.loop-k-test.true in
+    let room = spaced_room a.image.bytes.now a.image.len a.width a.group a.from.0 c.loop-k.k a.count c.loop-k-test.true in
     (c.requires.small.0, omega (arith, stride c.loop-k.k a.count a.width c.loop-k-test.true), omega arith)
 
 pub overflow_add-offset : goal.overflow_add-offset

@@ -10,11 +10,11 @@ use Rattle.listing_contents.proofs.put_last.Goals as goal
 pub put_run-requires : goal.put_run-requires
 put_run-requires c =
     let a = c.args in
-    let same = group_run a.image.now a.bits a.width a.group a.from.0 a.count (omega (arith, c.if-group-count.false)) (omega (arith, c.if-bits-start.false)) in
-    (c.requires.small.0, c.requires.small.2, omega (arith, ap length same, run_length a.image.now a.bits a.width a.from.0 a.count, c.requires.room))
+    let same = group_run a.image.bytes.now a.image.len a.width a.group a.from.0 a.count (omega (arith, c.if-group-count.false)) (omega (arith, c.if-bits-start.false)) in
+    (c.requires.small.0, c.requires.small.2, omega (arith, ap length same, run_length a.image.bytes.now a.image.len a.width a.from.0 a.count, c.requires.room))
 
 pub returns : goal.returns
 returns c =
     let a = c.args in
-    let same = group_run a.image.now a.bits a.width a.group a.from.0 a.count (omega (arith, c.if-group-count.false)) (omega (arith, c.if-bits-start.false)) in
+    let same = group_run a.image.bytes.now a.image.len a.width a.group a.from.0 a.count (omega (arith, c.if-group-count.false)) (omega (arith, c.if-bits-start.false)) in
     rw same c.put_run.ensures

@@ -17,21 +17,21 @@ put_shifted-next-requires c =
     let a = c.args in
     let m = (a.count - 1) / 2 in
     let i = a.first * 8 + a.shift in
-    let parts = pairs_parts a.image.now a.bits a.first a.shift a.count (omega arith) (omega arith) in
+    let parts = pairs_parts a.image.bytes.now a.image.len a.first a.shift a.count (omega arith) (omega arith) in
     let all = simp length-append at (ap length parts) in
-    record { inside = (omega arith, omega arith, omega arith); room = omega (arith, all, groups_length a.image.now a.bits 4 2 i m, c.requires.room) }
+    record { inside = (omega arith, omega arith, omega arith); room = omega (arith, all, groups_length a.image.bytes.now a.image.len 4 2 i m, c.requires.room) }
 
 pub put_pair-requires : goal.put_pair-requires
 put_pair-requires c =
     let a = c.args in
     let n = a.count - (a.count - 1) / 2 * 2 in
-    let byte = bits_at a.image.now a.bits ((a.first + (a.count - 1) / 2) * 8 + a.shift) 8 in
-    let parts = pairs_parts a.image.now a.bits a.first a.shift a.count (omega arith) (omega arith) in
+    let byte = bits_at a.image.bytes.now a.image.len ((a.first + (a.count - 1) / 2) * 8 + a.shift) 8 in
+    let parts = pairs_parts a.image.bytes.now a.image.len a.first a.shift a.count (omega arith) (omega arith) in
     let space = room_then (take n (byte_text Lower byte)) c.put_shifted-next.ensures (rw parts at c.requires.room) in
     (omega arith, omega arith, omega (arith, space, last_length n byte (omega arith)))
 
 pub returns : goal.returns
 returns c =
     let a = c.args in
-    let parts = pairs_parts a.image.now a.bits a.first a.shift a.count (omega arith) (omega arith) in
+    let parts = pairs_parts a.image.bytes.now a.image.len a.first a.shift a.count (omega arith) (omega arith) in
     rw parts (writes_then c.put_shifted-next.ensures (rw c.read_across-byte.ensures at c.put_pair.ensures))

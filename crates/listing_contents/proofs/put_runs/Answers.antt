@@ -20,15 +20,15 @@ put_run-next-requires c =
     let l = c.loop-k in
     let near = stride l.k a.count (a.group * a.width) c.loop-k-test.true in
     let room = stride l.k a.count (a.group + 1) c.loop-k-test.true in
-    (c.requires.small.0, omega arith, omega (arith, groups_length a.image.now a.bits a.width a.group a.from.0 l.k))
+    (c.requires.small.0, omega arith, omega (arith, groups_length a.image.bytes.now a.image.len a.width a.group a.from.0 l.k))
 
 pub put-next-requires : goal.put-next-requires
 put-next-requires c =
     let a = c.args in
     let l = c.loop-k in
     let room = stride l.k a.count (a.group + 1) c.loop-k-test.true in
-    let run = run_length a.image.now a.bits a.width l.offset a.group in
-    omega (arith, groups_length a.image.now a.bits a.width a.group a.from.0 l.k)
+    let run = run_length a.image.bytes.now a.image.len a.width l.offset a.group in
+    omega (arith, groups_length a.image.bytes.now a.image.len a.width a.group a.from.0 l.k)
 
 pub overflow_mul-offset : goal.overflow_mul-offset
 overflow_mul-offset c = omega (arith, stride c.loop-k.k c.args.count (c.args.group * c.args.width) c.loop-k-test.true)

@@ -18,21 +18,21 @@ pub put_digits-next-requires : goal.put_digits-next-requires
 put_digits-next-requires c =
     let a = c.args in
     let room = stride c.loop-k.k a.count (digits_per_byte a.kind + 1) c.loop-k-test.true in
-    omega (arith, groups_length a.image.now a.bits (digit_bits a.kind) (digits_per_byte a.kind) (a.first * 8 + a.shift) c.loop-k.k)
+    omega (arith, groups_length a.image.bytes.now a.image.len (digit_bits a.kind) (digits_per_byte a.kind) (a.first * 8 + a.shift) c.loop-k.k)
 
 pub put-next-requires : goal.put-next-requires
 put-next-requires c =
     let a = c.args in
     let room = stride c.loop-k.k a.count (digits_per_byte a.kind + 1) c.loop-k-test.true in
     let byte = byte_length a.kind c.read_across-byte.result in
-    omega (arith, groups_length a.image.now a.bits (digit_bits a.kind) (digits_per_byte a.kind) (a.first * 8 + a.shift) c.loop-k.k)
+    omega (arith, groups_length a.image.bytes.now a.image.len (digit_bits a.kind) (digits_per_byte a.kind) (a.first * 8 + a.shift) c.loop-k.k)
 
 pub loop-k-preserved : goal.loop-k-preserved
 loop-k-preserved c =
     let l = c.loop-k in
     let a = c.args in (
       search rules,
-      rw (shifted_next a.kind a.image.now a.bits a.first a.shift l.k, ← c.read_across-byte.ensures)
+      rw (shifted_next a.kind a.image.bytes.now a.image.len a.first a.shift l.k, ← c.read_across-byte.ensures)
           (writes_then l.invariant.1 (writes_then c.put_digits-next.ensures c.put-next.ensures)),
       omega (arith, l.invariant.2, writes_length c.put_digits-next.ensures, writes_length c.put-next.ensures),
     )

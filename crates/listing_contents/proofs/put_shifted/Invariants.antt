@@ -8,5 +8,5 @@ use Rattle.listing_contents.proofs.put_shifted.Given as goal
 
 abbrev pub invariant-loop-k : goal.invariant-loop-k
 invariant-loop-k l = (l.k ≤ l.count)
-    × Writes (groups l.image l.bits (digit_bits l.kind) (digits_per_byte l.kind) (l.first * 8 + l.shift) l.k) l.initial.out l.at l.out l.next
+    × Writes (groups l.image.bytes.now l.image.len (digit_bits l.kind) (digits_per_byte l.kind) (l.first * 8 + l.shift) l.k) l.initial.out l.at l.out l.next
     × (length l.out ≡ length l.initial.out)

@@ -11,8 +11,8 @@ use Rattle.listing_lines.proofs.place_length.Goals as goal
 
 pub returns-then-offset-eq-ABSENT : goal.returns-then-offset-eq-ABSENT
 returns-then-offset-eq-ABSENT c = (
-  λ t e. omega (arith, e, c.larger.ensures, ap length (place_absent c.args.options c.args.width c.args.offset c.args.number t c.if-offset-eq-ABSENT.true), padded_length 32 c.args.width t),
-  omega (arith, c.larger.ensures, c.requires.1, c.requires.2),
+  λ t e. omega (arith, e, c.max.ensures, ap length (place_absent c.args.options c.args.width c.args.offset c.args.number t c.if-offset-eq-ABSENT.true), padded_length 32 c.args.width t),
+  omega (arith, c.max.ensures, c.requires.1, c.requires.2),
 )
 
 pub returns : goal.returns

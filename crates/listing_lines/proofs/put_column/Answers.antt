@@ -9,7 +9,7 @@ use Rattle.listing_lines.proofs.put_column.Goals as goal
 pub put_contents-next-requires : goal.put_contents-next-requires
 put_contents-next-requires c =
     let a = c.args in
-    (c.requires.0, omega (arith, c.requires.1, at_left_length a.width (contents a.options a.image.now a.bits a.offset a.size)))
+    (c.requires.0, omega (arith, c.requires.1, at_left_length a.width (contents a.options a.image.bytes.now a.image.len a.offset a.size)))
 
 pub contents_length-requires : goal.contents_length-requires
 contents_length-requires c = c.requires.0
@@ -17,11 +17,11 @@ contents_length-requires c = c.requires.0
 pub put_fill-requires : goal.put_fill-requires
 put_fill-requires c =
     let a = c.args in
-    let whole = c.contents_length.ensures.0 a.image.now a.bits a.offset in
-    omega (arith, c.requires.1, c.free-free.ensures, whole, c.put_contents-next.ensures.next, at_left_length a.width (contents a.options a.image.now a.bits a.offset a.size))
+    let whole = c.contents_length.ensures.0 a.image.bytes.now a.image.len a.offset in
+    omega (arith, c.requires.1, c.saturating_sub-free.ensures, whole, c.put_contents-next.ensures.next, at_left_length a.width (contents a.options a.image.bytes.now a.image.len a.offset a.size))
 
 pub returns : goal.returns
 returns c =
     let a = c.args in
-    let whole = c.contents_length.ensures.0 a.image.now a.bits a.offset in
-    writes_then c.put_contents-next.ensures (rw (c.free-free.ensures, ← whole) at c.put_fill.ensures)
+    let whole = c.contents_length.ensures.0 a.image.bytes.now a.image.len a.offset in
+    writes_then c.put_contents-next.ensures (rw (c.saturating_sub-free.ensures, ← whole) at c.put_fill.ensures)

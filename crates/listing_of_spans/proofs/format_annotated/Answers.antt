@@ -10,5 +10,5 @@ column_listing-requires c = rw (c.copy_columns-columns.ensures, c.copy_listing_c
 pub returns : goal.returns
 returns c =
     let a = c.args in
-    let few = listing_few a.spans.now a.image.now a.bits a.options a.firmware.now a.protocol.now (length a.out.now) in
+    let few = listing_few a.spans.now a.image.bytes.now a.image.len a.options a.firmware.now a.protocol.now (length a.out.now) in
     rw (← few, ← c.copy_columns-columns.ensures, ← c.copy_listing_columns-others.ensures) c.column_listing.ensures

@@ -8,6 +8,6 @@ use Rattle.listing_spans.proofs.put_lines.Given as goal
 
 abbrev pub invariant-loop-k : goal.invariant-loop-k
 invariant-loop-k l = (l.k ≤ length l.places)
-    × Writes (pieces (λ j. line_at l.options l.widths l.image l.bits (spans_of l.offsets l.sizes l.addrs l.files l.starts l.ends) l.firmware l.protocol (get_or l.places j 0)) l.k) l.initial.out l.at l.out l.next
+    × Writes (pieces (λ j. line_at l.options l.widths l.image.bytes.now l.image.len (spans_of l.offsets l.sizes l.addrs l.files l.starts l.ends) l.firmware l.protocol (get_or l.places j 0)) l.k) l.initial.out l.at l.out l.next
     × (length l.out ≡ length l.initial.out)
     × ((j : ℕ) → j < length l.places → get_or l.places j 0 < length l.offsets)

@@ -14,13 +14,13 @@ excerpt-text-requires c =
 pub put_line-requires : goal.put_line-requires
 put_line-requires c =
     let a = c.args in
-    let line = line_shown a.options a.widths a.image.now a.bits a.offset a.size a.addr (excerpt_of a.firmware.now a.protocol.now a.file a.start a.end) (sym c.shown.ensures ∙ c.if-shown.true) in
+    let line = line_shown a.options a.widths a.image.bytes.now a.image.len a.offset a.size a.addr (excerpt_of a.firmware.now a.protocol.now a.file a.start a.end) (sym c.shown.ensures ∙ c.if-shown.true) in
     (c.requires.sound.0, c.requires.sound.1, rw (c.excerpt-text.ensures, ← line) c.requires.room)
 
 pub returns-then-shown : goal.returns-then-shown
 returns-then-shown c =
     let a = c.args in
-    let line = line_shown a.options a.widths a.image.now a.bits a.offset a.size a.addr (excerpt_of a.firmware.now a.protocol.now a.file a.start a.end) (sym c.shown.ensures ∙ c.if-shown.true) in
+    let line = line_shown a.options a.widths a.image.bytes.now a.image.len a.offset a.size a.addr (excerpt_of a.firmware.now a.protocol.now a.file a.start a.end) (sym c.shown.ensures ∙ c.if-shown.true) in
     rw (line, ← c.excerpt-text.ensures) c.put_line.ensures
 
 pub returns : goal.returns

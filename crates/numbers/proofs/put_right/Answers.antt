@@ -8,11 +8,11 @@ use Rattle.output.proofs.Writes.{writes_then}
 use Rattle.numbers.proofs.put_right.Goals as goal
 
 pub put_fill-next-requires : goal.put_fill-next-requires
-put_fill-next-requires c = omega (arith, c.free.ensures, c.requires)
+put_fill-next-requires c = omega (arith, c.saturating_sub.ensures, c.requires)
 
 pub put_all-requires : goal.put_all-requires
-put_all-requires c = omega (arith, c.put_fill-next.ensures.next, c.free.ensures, c.requires, length-replicate {A = ℕ} c.free.result 32)
+put_all-requires c = omega (arith, c.put_fill-next.ensures.next, c.saturating_sub.ensures, c.requires, length-replicate {A = ℕ} c.saturating_sub.result 32)
 
 pub returns : goal.returns
 unfolding padded
-returns c = writes_then (rw c.free.ensures at c.put_fill-next.ensures) c.put_all.ensures
+returns c = writes_then (rw c.saturating_sub.ensures at c.put_fill-next.ensures) c.put_all.ensures

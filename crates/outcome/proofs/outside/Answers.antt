@@ -1,5 +1,6 @@
--- `outcome::outside` meets its contract: each return goes by the tests that led to it.
+-- `outcome::outside` meets its contract: the second test counts where the first fails.
 -- Assumes nothing.
+use mathlib.Core.Path.{refl}
 use borrow.Author.Tests.{lt-ltb, le-ltb}
 use Rattle.outcome.specs.Outcome.{outside}
 use Rattle.outcome.proofs.outside.Goals as goal
@@ -8,10 +9,6 @@ pub returns-then-option-low : goal.returns-then-option-low
 unfolding outside
 returns-then-option-low c = simp (lt-ltb _ _ c.if-option-low.true)
 
-pub returns-then-high-option : goal.returns-then-high-option
+pub returns-else-option-low : goal.returns-else-option-low
 unfolding outside
-returns-then-high-option c = simp (le-ltb _ _ c.if-option-low.false, lt-ltb _ _ c.if-high-option.true)
-
-pub returns : goal.returns
-unfolding outside
-returns c = simp (le-ltb _ _ c.if-option-low.false, le-ltb _ _ c.if-high-option.false)
+returns-else-option-low c = simp (le-ltb _ _ c.if-option-low.false) refl

@@ -1,21 +1,15 @@
--- `output::put_fill` meets its contract: after i turns i bytes are written.
+-- `output::put_fill` meets its contract: the part behind the place is filled.
 -- Assumes nothing.
-use mathlib.Core.Path.{◌≡◌, refl}
-use native.Mathlib.Omega.{arith}
-use lib.ListN.{replicate-append-replicate}
-use borrow.Author.Rules.{rules}
-use Rattle.output.proofs.Writes.{writes_nothing, writes_then}
+use Rattle.std.proofs.Common.{rules, arith, ◌≡◌, ◌+◌, ◌-◌, ◌≤◌, length, replicate}
+use lib.ListN.{length-replicate}
+use Rattle.output.proofs.Writes.{part_filled}
 use Rattle.output.proofs.put_fill.Goals as goal
-
-pub loop-i-init : goal.loop-i-init
-loop-i-init c = (search rules, search rules, writes_nothing _ _, refl)
-
-pub loop-i-preserved : goal.loop-i-preserved
-loop-i-preserved c =
-    (search rules, search rules, rw (← replicate-append-replicate) (writes_then c.loop-i.invariant.2 c.put-next.ensures), search rules)
 
 pub returns : goal.returns
 returns c =
     let a = c.args in
-    let done : c.loop-i.i ≡ a.count = omega arith in
-    rw done at c.loop-i.invariant.2
+    let n = length-replicate a.count a.byte in
+    record {
+      next = omega (arith, n);
+      stored = part_filled (replicate a.count a.byte) a.out.now a.at _ _ (search rules) (omega (arith, n)) (omega (arith, n, c.requires));
+    }

@@ -22,7 +22,7 @@ put_parted-next-requires c =
     let room : c.loop-k.next + 6 ≤ length c.loop-k.out = let l = c.loop-k in
     let a = c.args in
     omega
-    (arith, l.invariant.1.next, l.invariant.2, rows_length Hex a.bytes.now a.len a.first 1 (a.tail ∷ []) (l.k * 2), stride l.k a.count 6 c.loop-k-test.true, c.requires.room) in
+    (arith, l.invariant.1.next, l.invariant.2, rows_length Hex a.image.bytes.now a.image.len a.first 1 (a.tail ∷ []) (l.k * 2), stride l.k a.count 6 c.loop-k-test.true, c.requires.room) in
     omega (arith, room)
 
 pub loop-k-preserved : goal.loop-k-preserved
@@ -31,7 +31,7 @@ loop-k-preserved c =
     let a = c.args in
     let place = a.first + c.loop-k.k * 2 in (
       search rules,
-      rw (singles_two Hex a.bytes.now a.len a.first (a.tail ∷ []) c.loop-k.k (omega (arith, c.requires.inside.0)) (c.shared_slice_known-in-loop-k-1.given place).fits (c.type_inv.bytes (place + 1)).fits)
+      rw (singles_two Hex a.image.bytes.now a.image.len a.first (a.tail ∷ []) c.loop-k.k (omega (arith, c.requires.inside.0)) (c.shared_slice_known-in-loop-k-1.given place).fits (search rules))
           (writes_then c.loop-k.invariant.1 c.put_parted-next.ensures),
       omega (arith, c.loop-k.invariant.2, writes_length c.put_parted-next.ensures),
     )

@@ -19,15 +19,15 @@ put_digits-next-requires c =
     let l = c.loop-j in
     let a = c.args in
     omega
-    (arith, l.invariant.1.next, bytes_length a.kind a.bytes.now a.len a.first l.j, stride l.j a.count (digits_per_byte a.kind) c.loop-j-test.true, c.requires.room)
+    (arith, l.invariant.1.next, bytes_length a.kind a.image.bytes.now a.image.len a.first l.j, stride l.j a.count (digits_per_byte a.kind) c.loop-j-test.true, c.requires.room)
 
 pub loop-j-preserved : goal.loop-j-preserved
 loop-j-preserved c =
     let l = c.loop-j in
     let a = c.args in
-    let byte = byte_whole a.bytes.now a.len (a.first + l.j) (omega arith) (c.type_inv.bytes (a.first + l.j)).fits in (
+    let byte = byte_whole a.image.bytes.now a.image.len (a.first + l.j) (omega arith) (search rules) in (
       search rules,
-      rw (bytes_next a.kind a.bytes.now a.len a.first l.j, byte) (writes_then l.invariant.1 c.put_digits-next.ensures),
+      rw (bytes_next a.kind a.image.bytes.now a.image.len a.first l.j, byte) (writes_then l.invariant.1 c.put_digits-next.ensures),
       omega (arith, writes_length c.put_digits-next.ensures),
     )
 

@@ -6,7 +6,7 @@ use Rattle.rows.specs.Rows.{bytes_text}
 use Rattle.rows.proofs.put_bytes.Given as goal
 
 abbrev pub invariant-loop-j : goal.invariant-loop-j
-invariant-loop-j l = (l.j ≤ l.count) × Writes (bytes_text l.kind l.bytes l.len l.first l.j) l.initial.out l.at l.out l.next × (length l.out ≡ length l.initial.out)
+invariant-loop-j l = (l.j ≤ l.count) × Writes (bytes_text l.kind l.image.bytes.now l.image.len l.first l.j) l.initial.out l.at l.out l.next × (length l.out ≡ length l.initial.out)
 
 abbrev pub decreases-loop-j : goal.decreases-loop-j
 decreases-loop-j l = l.count - l.j

@@ -20,7 +20,7 @@ put_two-next-requires c =
     let room : c.loop-k.next + (4 * digits_per_byte c.args.kind + 1) ≤ length c.loop-k.out = let l = c.loop-k in
     let a = c.args in
     omega
-    (arith, l.invariant.1.next, l.invariant.2, rows_length a.kind a.bytes.now a.len a.first 4 (a.tail ∷ []) l.k, stride l.k a.count (4 * digits_per_byte a.kind + 1) c.loop-k-test.true, c.requires.room) in
+    (arith, l.invariant.1.next, l.invariant.2, rows_length a.kind a.image.bytes.now a.image.len a.first 4 (a.tail ∷ []) l.k, stride l.k a.count (4 * digits_per_byte a.kind + 1) c.loop-k-test.true, c.requires.room) in
     record { inside = search rules; room = omega (arith, room) }
 
 pub put_two-next-requires-in-loop-k : goal.put_two-next-requires-in-loop-k
@@ -28,25 +28,25 @@ put_two-next-requires-in-loop-k c =
     let room : c.loop-k.next + (4 * digits_per_byte c.args.kind + 1) ≤ length c.loop-k.out = let l = c.loop-k in
     let a = c.args in
     omega
-    (arith, l.invariant.1.next, l.invariant.2, rows_length a.kind a.bytes.now a.len a.first 4 (a.tail ∷ []) l.k, stride l.k a.count (4 * digits_per_byte a.kind + 1) c.loop-k-test.true, c.requires.room) in
-    let a = c.args in record { inside = search rules; room = omega (arith, room, c.put_two-next.ensures.next, writes_length c.put_two-next.ensures, bytes_length a.kind a.bytes.now a.len (a.first + c.loop-k.k * 4) 2) }
+    (arith, l.invariant.1.next, l.invariant.2, rows_length a.kind a.image.bytes.now a.image.len a.first 4 (a.tail ∷ []) l.k, stride l.k a.count (4 * digits_per_byte a.kind + 1) c.loop-k-test.true, c.requires.room) in
+    let a = c.args in record { inside = search rules; room = omega (arith, room, c.put_two-next.ensures.next, writes_length c.put_two-next.ensures, bytes_length a.kind a.image.bytes.now a.image.len (a.first + c.loop-k.k * 4) 2) }
 
 pub put-next-requires : goal.put-next-requires
 put-next-requires c =
     let room : c.loop-k.next + (4 * digits_per_byte c.args.kind + 1) ≤ length c.loop-k.out = let l = c.loop-k in
     let a = c.args in
     omega
-    (arith, l.invariant.1.next, l.invariant.2, rows_length a.kind a.bytes.now a.len a.first 4 (a.tail ∷ []) l.k, stride l.k a.count (4 * digits_per_byte a.kind + 1) c.loop-k-test.true, c.requires.room) in
+    (arith, l.invariant.1.next, l.invariant.2, rows_length a.kind a.image.bytes.now a.image.len a.first 4 (a.tail ∷ []) l.k, stride l.k a.count (4 * digits_per_byte a.kind + 1) c.loop-k-test.true, c.requires.room) in
     let a = c.args in
     let place = a.first + c.loop-k.k * 4 in
     omega
-    (arith, room, c.put_two-next.ensures.next, writes_length c.put_two-next.ensures, bytes_length a.kind a.bytes.now a.len place 2, c.put_two-next-in-loop-k.ensures.next, writes_length c.put_two-next-in-loop-k.ensures, bytes_length a.kind a.bytes.now a.len (place + 2) 2)
+    (arith, room, c.put_two-next.ensures.next, writes_length c.put_two-next.ensures, bytes_length a.kind a.image.bytes.now a.image.len place 2, c.put_two-next-in-loop-k.ensures.next, writes_length c.put_two-next-in-loop-k.ensures, bytes_length a.kind a.image.bytes.now a.image.len (place + 2) 2)
 
 pub loop-k-preserved : goal.loop-k-preserved
 loop-k-preserved c =
     let a = c.args in (
       search rules,
-      rw (rows_next a.kind a.bytes.now a.len a.first 4 (a.tail ∷ []) c.loop-k.k, four_text a.kind a.bytes.now a.len (a.first + c.loop-k.k * 4))
+      rw (rows_next a.kind a.image.bytes.now a.image.len a.first 4 (a.tail ∷ []) c.loop-k.k, four_text a.kind a.image.bytes.now a.image.len (a.first + c.loop-k.k * 4))
           (writes_then c.loop-k.invariant.1 (writes_then (writes_then c.put_two-next.ensures c.put_two-next-in-loop-k.ensures) c.put-next.ensures)),
       omega (arith, c.loop-k.invariant.2, writes_length c.put_two-next.ensures, writes_length c.put_two-next-in-loop-k.ensures, writes_length c.put-next.ensures),
     )

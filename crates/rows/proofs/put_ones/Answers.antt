@@ -22,7 +22,7 @@ put_digits-next-requires c =
     let room : (let a = c.args in c.loop-k.next + (digits_per_byte a.kind + 1) ≤ length c.loop-k.out) = let l = c.loop-k in
     let a = c.args in
     omega
-    (arith, l.invariant.1.next, rw one-mul at (rows_length a.kind a.bytes.now a.len a.first 1 (a.tail ∷ []) l.k), stride l.k a.count (digits_per_byte a.kind + 1) c.loop-k-test.true, c.requires.room) in
+    (arith, l.invariant.1.next, rw one-mul at (rows_length a.kind a.image.bytes.now a.image.len a.first 1 (a.tail ∷ []) l.k), stride l.k a.count (digits_per_byte a.kind + 1) c.loop-k-test.true, c.requires.room) in
     omega (arith, room)
 
 pub put-next-requires : goal.put-next-requires
@@ -30,19 +30,19 @@ put-next-requires c =
     let room : (let a = c.args in c.loop-k.next + (digits_per_byte a.kind + 1) ≤ length c.loop-k.out) = let l = c.loop-k in
     let a = c.args in
     omega
-    (arith, l.invariant.1.next, rw one-mul at (rows_length a.kind a.bytes.now a.len a.first 1 (a.tail ∷ []) l.k), stride l.k a.count (digits_per_byte a.kind + 1) c.loop-k-test.true, c.requires.room) in
+    (arith, l.invariant.1.next, rw one-mul at (rows_length a.kind a.image.bytes.now a.image.len a.first 1 (a.tail ∷ []) l.k), stride l.k a.count (digits_per_byte a.kind + 1) c.loop-k-test.true, c.requires.room) in
     let a = c.args in
     let place = a.first + c.loop-k.k in
     omega
-    (arith, room, c.put_digits-next.ensures.next, writes_length c.put_digits-next.ensures, byte_length a.kind (get_or a.bytes.now place 0))
+    (arith, room, c.put_digits-next.ensures.next, writes_length c.put_digits-next.ensures, byte_length a.kind (get_or a.image.bytes.now place 0))
 
 pub loop-k-preserved : goal.loop-k-preserved
 loop-k-preserved c =
     let l = c.loop-k in
     let a = c.args in
-    let byte = byte_whole a.bytes.now a.len (a.first + l.k) (omega arith) (c.type_inv.bytes (a.first + l.k)).fits in (
+    let byte = byte_whole a.image.bytes.now a.image.len (a.first + l.k) (omega arith) (search rules) in (
       search rules,
-      rw (singles_next a.kind a.bytes.now a.len a.first (a.tail ∷ []) l.k, byte)
+      rw (singles_next a.kind a.image.bytes.now a.image.len a.first (a.tail ∷ []) l.k, byte)
           (writes_then l.invariant.1 (writes_then c.put_digits-next.ensures c.put-next.ensures)),
       omega (arith, writes_length c.put_digits-next.ensures, writes_length c.put-next.ensures),
     )

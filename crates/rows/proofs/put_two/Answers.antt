@@ -1,6 +1,7 @@
 -- `rows::put_two` meets its contract: both bytes are within the image.
 -- Assumes nothing.
 use Prim.Native.Nat.{◌+◌}
+use borrow.Author.Rules.{rules}
 use Rattle.rows.specs.declared.ByteDigits.TheVariants.{Binary, Hex}
 use Rattle.rows.specs.Rows.{byte_digits}
 use Rattle.rows.proofs.Rows.{two_text}
@@ -16,12 +17,12 @@ pub returns-in-Binary : goal.returns-in-Binary
 unfolding byte_digits
 returns-in-Binary c =
     let a = c.args in
-    rw (c.in-Binary.is, two_text Binary a.bytes.now a.len a.place c.requires.inside.0 (c.shared_slice_known-2-1.given a.place).fits (c.type_inv.bytes (a.place + 1)).fits)
+    rw (c.in-Binary.is, two_text Binary a.image.bytes.now a.image.len a.place c.requires.inside.0 (c.shared_slice_known-2-1.given a.place).fits (search rules))
     c.put_two_bits.ensures
 
 pub returns-in-Hex : goal.returns-in-Hex
 unfolding byte_digits
 returns-in-Hex c =
     let a = c.args in
-    rw (c.in-Hex.is, two_text Hex a.bytes.now a.len a.place c.requires.inside.0 (c.shared_slice_known-2-1.given a.place).fits (c.type_inv.bytes (a.place + 1)).fits)
+    rw (c.in-Hex.is, two_text Hex a.image.bytes.now a.image.len a.place c.requires.inside.0 (c.shared_slice_known-2-1.given a.place).fits (search rules))
     c.put_pair.ensures

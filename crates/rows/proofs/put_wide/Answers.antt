@@ -20,7 +20,7 @@ put_bytes-next-requires c =
     let room : (let a = c.args in c.loop-k.next + (a.width * digits_per_byte a.kind + length a.tail.now) ≤ length c.loop-k.out) = let l = c.loop-k in
     let a = c.args in
     omega
-    (arith, l.invariant.2.next, rows_length a.kind a.bytes.now a.len a.first a.width a.tail.now l.k, stride l.k a.count (a.width * digits_per_byte a.kind + length a.tail.now) c.loop-k-test.true, c.requires.room) in
+    (arith, l.invariant.2.next, rows_length a.kind a.image.bytes.now a.image.len a.first a.width a.tail.now l.k, stride l.k a.count (a.width * digits_per_byte a.kind + length a.tail.now) c.loop-k-test.true, c.requires.room) in
     let l = c.loop-k in
     let a = c.args in
     let inside = stride l.k a.count a.width c.loop-k-test.true in
@@ -31,10 +31,10 @@ put_text-next-requires c =
     let room : (let a = c.args in c.loop-k.next + (a.width * digits_per_byte a.kind + length a.tail.now) ≤ length c.loop-k.out) = let l = c.loop-k in
     let a = c.args in
     omega
-    (arith, l.invariant.2.next, rows_length a.kind a.bytes.now a.len a.first a.width a.tail.now l.k, stride l.k a.count (a.width * digits_per_byte a.kind + length a.tail.now) c.loop-k-test.true, c.requires.room) in
+    (arith, l.invariant.2.next, rows_length a.kind a.image.bytes.now a.image.len a.first a.width a.tail.now l.k, stride l.k a.count (a.width * digits_per_byte a.kind + length a.tail.now) c.loop-k-test.true, c.requires.room) in
     let a = c.args in
     omega
-    (arith, room, c.put_bytes-next.ensures.next, writes_length c.put_bytes-next.ensures, bytes_length a.kind a.bytes.now a.len c.loop-k.place a.width)
+    (arith, room, c.put_bytes-next.ensures.next, writes_length c.put_bytes-next.ensures, bytes_length a.kind a.image.bytes.now a.image.len c.loop-k.place a.width)
 
 pub overflow_add-place : goal.overflow_add-place
 overflow_add-place c =
@@ -48,7 +48,7 @@ loop-k-preserved c =
     let a = c.args in (
       search rules,
       omega (arith, suc-mul l.k a.width, l.invariant.1),
-      rw (rows_next a.kind a.bytes.now a.len a.first a.width a.tail.now l.k, ← l.invariant.1)
+      rw (rows_next a.kind a.image.bytes.now a.image.len a.first a.width a.tail.now l.k, ← l.invariant.1)
           (writes_then l.invariant.2 (writes_then c.put_bytes-next.ensures c.put_text-next.ensures)),
       omega (arith, writes_length c.put_bytes-next.ensures, writes_length c.put_text-next.ensures),
     )

@@ -8,7 +8,7 @@ use Rattle.spans.proofs.copy_listing_columns.Goals as goal
 
 pub loop-i-init : goal.loop-i-init
 unfolding zeros
-loop-i-init c = record { within = omega arith; fewest = c.smaller-count.ensures; addrs = refl; files = refl; starts = refl; ends = refl }
+loop-i-init c = record { within = omega arith; fewest = c.min-count.ensures; addrs = refl; files = refl; starts = refl; ends = refl }
 
 pub loop-i-preserved : goal.loop-i-preserved
 loop-i-preserved c =

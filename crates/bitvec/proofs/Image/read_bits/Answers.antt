@@ -1,9 +1,9 @@
--- `bitvec::read_bits` meets its contract: bit by bit near the end, and else out of two bytes.
+-- `bitvec::Image::read_bits` meets its contract: bit by bit near the end, and else out of two bytes.
 -- Assumes nothing.
 use mathlib.Core.Path.{◌≡◌}
 use Prim.Native.Nat.{◌+◌, ◌*◌, ◌/◌, ◌%◌}
 use native.Mathlib.Omega.{arith}
-use Rattle.bitvec.proofs.read_bits.Goals as goal
+use Rattle.bitvec.proofs.Image.read_bits.Goals as goal
 
 pub returns : goal.returns
 returns c =

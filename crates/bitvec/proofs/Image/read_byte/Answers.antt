@@ -1,14 +1,14 @@
--- `bitvec::read_byte` meets its contract: an aligned byte within the bit length is itself.
+-- `bitvec::Image::read_byte` meets its contract: an aligned byte within the bit length is itself.
 -- Assumes nothing.
 use mathlib.Core.Path.{◌≡◌, sym}
 use Prim.Native.Nat.{◌*◌, ◌/◌}
 use native.Mathlib.Omega.{arith}
 use Rattle.bitvec.proofs.Words.{byte_whole}
-use Rattle.bitvec.proofs.read_byte.Goals as goal
+use Rattle.bitvec.proofs.Image.read_byte.Goals as goal
 
 pub returns : goal.returns
 returns c =
     let a = c.args in
     let at = a.offset.0 / 8 in
     let place : at * 8 ≡ a.offset.0 = omega arith in
-    sym (rw place at (byte_whole a.bytes.now a.len at (omega arith) (c.type_inv.bytes at).fits))
+    sym (rw place at (byte_whole a.self.bytes.now a.self.len at (omega arith) (c.type_inv.self at).fits))
