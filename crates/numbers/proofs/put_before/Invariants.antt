@@ -4,13 +4,13 @@ use Prim.Native.Nat.{ℕ, ◌+◌, ◌≤◌}
 use lib.ListN.{length}
 use lib.Seq.{sets}
 use Rattle.numbers.specs.Digits.{digit_count, number_text}
-use Rattle.numbers.proofs.put_counted.Given as goal
+use Rattle.numbers.proofs.put_before.Given as goal
 
 abbrev pub invariant-loop-rest : goal.invariant-loop-rest
 invariant-loop-rest l = (t : List ℕ)
-    × (number_text l.letters l.radix l.rest ++ t ≡ number_text l.letters l.radix l.value)
+    × (number_text l.letters l.radix.value l.rest ++ t ≡ number_text l.letters l.radix.value l.value)
     × (l.out ≡ sets l.initial.out l.place t)
-    × (l.place ≡ l.at + digit_count l.radix l.rest)
+    × (l.place + digit_count l.radix.value l.value ≡ l.end + digit_count l.radix.value l.rest)
     × (l.place ≤ l.end)
     × (length l.out ≡ length l.initial.out)
 
