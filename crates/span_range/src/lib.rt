@@ -9,6 +9,9 @@ ghost use Rattle.span_range.specs.Range.{long_list, bad_span, fault_at};
 use bitvec::MAX_BITS;
 use ordering::{ABSENT, SpanList};
 
+// Half of the largest image: where no offset and no size is as large, no span ends behind the image.
+const HALF_LIMIT: u32 = 8388608;
+
 // Whether the list is long, the first cause of refusal 3.
 #[tactic(auto, unfolding(crate::specs::Range::long_list))]
 pub fn long_list(offsets: &[u32], sizes: &[u32]) -> bool
@@ -31,8 +34,8 @@ pub fn joined(spans: SpanList<'_>) -> u32
     ensures { (k : ℕ) → k < length spans.entry.offsets.now → AtMost spans.entry.offsets.now spans.entry.sizes.now result k }
 {
     let mut all: u32 = 0;
-    for (k, &offset) in spans.offsets.iter().enumerate() {
-        all |= offset | spans.sizes[k];
+    for (&offset, &size) in spans.offsets.iter().zip(spans.sizes) {
+        all |= offset | size;
     }
     all
 }
@@ -41,6 +44,7 @@ pub fn joined(spans: SpanList<'_>) -> u32
 fn first_fault(spans: SpanList<'_>) -> Option<usize>
     ensures { MatchOption result (fault_at spans.entry.offsets.now spans.entry.sizes.now ≡ length spans.entry.offsets.now) (λ p. (p < length spans.entry.offsets.now) × (p ≡ fault_at spans.entry.offsets.now spans.entry.sizes.now)) }
 {
+    // Tried: zip with the sizes under enumerate, whose proof did not close.
     for (p, &offset) in spans.offsets.iter().enumerate() {
         if bad_span(offset, spans.sizes[p]) {
             return Some(p);
@@ -53,7 +57,7 @@ fn first_fault(spans: SpanList<'_>) -> Option<usize>
 pub fn fault_at(spans: SpanList<'_>) -> Option<usize>
     ensures { MatchOption result (fault_at spans.entry.offsets.now spans.entry.sizes.now ≡ length spans.entry.offsets.now) (λ p. (p < length spans.entry.offsets.now) × (p ≡ fault_at spans.entry.offsets.now spans.entry.sizes.now)) }
 {
-    if joined(spans) < 8388608 {
+    if joined(spans) < HALF_LIMIT {
         return None;
     }
     first_fault(spans)
