@@ -1,21 +1,12 @@
 -- The export of the annotated listing (document 01, module 9; the Rust's `format_annotated`): its refusals, and then its text.
-use Rattle.std.specs.Prelude.{Bool, cond, not, ◌||◌, List, ℕ, eqb, ltb, length}
+use Rattle.std.specs.Prelude.{cond, ◌||◌, List, ℕ, ltb, length}
 use Rattle.bitvec.specs.Size.{bad_size}
 use Rattle.outcome.specs.Outcome.{Outcome, refused, in_room}
 use Rattle.span_range.specs.Range.{spans_checked}
 use Rattle.sources.specs.Sources.{bad_text}
 use Rattle.listing.specs.declared.FormatAnnotatedOptions.{FormatAnnotatedOptions}
-use Rattle.listing.specs.Listing.{bad_annotated, Spans, annotated_text}
+use Rattle.listing.specs.Listing.{bad_annotated, Spans, unequal, annotated_text}
 use Rattle.listing_spans.specs.Faults.{span_fault}
-
--- Slices of unequal length, a cause of refusal 3. The sizes are looked at with the offsets.
-unfoldable pub unequal : Spans → Bool
-unequal s =
-    let n = length s.offsets in
-    not (eqb n (length s.addrs))
-    || (not (eqb n (length s.files))
-    || (not (eqb n (length s.starts))
-    || not (eqb n (length s.ends))))
 
 -- Refusals 6, 7 and 8, and the text, of spans in their range.
 unfoldable pub listed_outcome : List ℕ → ℕ → FormatAnnotatedOptions → Spans → List ℕ → List ℕ → ℕ → Outcome

@@ -1,7 +1,7 @@
 -- Laws of the listing's options and of the widths of its columns.
 -- Assumes nothing.
-use mathlib.Core.Path.{◌≡◌, ap, ◌∙◌}
-use mathlib.Core.Bool.{false}
+use mathlib.Core.Path.{◌≡◌, refl, sym, ap, ◌∙◌}
+use mathlib.Core.Bool.{Bool, true, false, ◌||◌}
 use mathlib.Core.List.{List, ◌++◌}
 use mathlib.Core.Logic.{◌≢◌}
 use mathlib.Mathlib.Data.Bool.Basic.{or-eq-false-eq-eq-false-and-eq-false}
@@ -10,7 +10,7 @@ use native.Mathlib.Numerals.{add-one}
 use native.Mathlib.Omega.{arith}
 use lib.Dec.{eqb}
 use lib.ListN.{length, get_or, length-append}
-use borrow.Author.Tests.{lt-ltb, le-ltb, eqb-false, ne_eqb, eq-eqb}
+use borrow.Author.Tests.{lt-ltb, le-ltb, ne_eqb, eq-eqb}
 use Rattle.output.specs.Ascii.{ascii}
 use Rattle.output.proofs.Order.{by_order}
 use Rattle.outcome.specs.Outcome.{outside}
@@ -22,32 +22,36 @@ use Rattle.bases.specs.Base.{base_bits}
 use Rattle.ordering.specs.Order.{absent}
 use Rattle.listing.specs.declared.FormatAnnotatedOptions.{FormatAnnotatedOptions}
 use Rattle.listing.specs.declared.Widths.{Widths}
-use Rattle.listing.specs.Listing.{bad_annotated, content_digits, content_need, addr_title, wider, widths_of, at_right, heading}
+use Rattle.listing.specs.Listing.{out_of_range, bad_annotated, content_digits, content_need, addr_title, wider, widths_of, at_right, heading}
 
--- Options in their range.
-pub record Good (o : FormatAnnotatedOptions) : Type 0 where
-  pub base_some : 1 ≤ base_bits o.base
-  pub radix_least : 2 ≤ o.addr_base
-  pub radix_most : o.addr_base ≤ 36
-  pub group_some : 1 ≤ o.digits_per_group
-  pub group_most : o.digits_per_group ≤ 64
-
-pub good : (o : FormatAnnotatedOptions) → bad_annotated o ≡ false → Good o
+-- The options are bad where one of them is, and are not where none is.
+pub bad_base : (o : FormatAnnotatedOptions) → 0 ≡ base_bits o.base → bad_annotated o ≡ true
 unfolding bad_annotated
-good o e =
-    let f = (or-eq-false-eq-eq-false-and-eq-false (eqb (base_bits o.base) 0) _).0 e in
-    let g = (or-eq-false-eq-eq-false-and-eq-false (outside 2 36 o.addr_base) _).0 f.1 in
-    let h = (or-eq-false-eq-eq-false-and-eq-false (outside 1 64 o.digits_per_group) _).0 g.1 in
-    let radix = inside 2 36 o.addr_base g.0 in
-    let group = inside 1 64 o.digits_per_group h.0 in
-    let based = eqb-false (base_bits o.base) 0 f.0 in
-    record {
-      base_some = omega (arith, based);
-      radix_least = radix.0;
-      radix_most = radix.1;
-      group_some = group.0;
-      group_most = group.1;
-    }
+bad_base o e = simp (eq-eqb (base_bits o.base) 0 (sym e))
+
+pub bad_other : (o : FormatAnnotatedOptions) → out_of_range o ≡ true → bad_annotated o ≡ true
+unfolding bad_annotated
+bad_other o e = rw e (or_true (eqb (base_bits o.base) 0))
+  where
+    or_true : (b : Bool) → b || true ≡ true
+    or_true true = refl
+    or_true false = refl
+
+pub none_bad : (o : FormatAnnotatedOptions) (w : ℕ) → w ≡ base_bits o.base → 0 < w → out_of_range o ≡ false → bad_annotated o ≡ false
+unfolding bad_annotated
+none_bad o w e h f = simp (ne_eqb (base_bits o.base) 0 (λ z. absurd (omega (arith, e, h, z))), f)
+
+-- What is known of options in their range.
+pub radix_inside : (o : FormatAnnotatedOptions) → out_of_range o ≡ false → (2 ≤ o.addr_base) × (o.addr_base ≤ 36)
+unfolding out_of_range
+radix_inside o e = inside 2 36 o.addr_base ((or-eq-false-eq-eq-false-and-eq-false (outside 2 36 o.addr_base) _).0 e).0
+
+pub group_inside : (o : FormatAnnotatedOptions) → out_of_range o ≡ false → (0 < o.digits_per_group) × (o.digits_per_group ≤ 64)
+unfolding out_of_range
+group_inside o e =
+    let f = ((or-eq-false-eq-eq-false-and-eq-false (outside 2 36 o.addr_base) _).0 e).1 in
+    let g = inside 1 64 o.digits_per_group ((or-eq-false-eq-eq-false-and-eq-false (outside 1 64 o.digits_per_group) _).0 f).0 in
+    (omega (arith, g), g.1)
 
 -- What a span asks of the contents column, where it asks for nothing and where not.
 pub need_few : (o : FormatAnnotatedOptions) (size : ℕ) → content_digits o size + content_digits o size / o.digits_per_group < 2 → content_need o size ≡ 0

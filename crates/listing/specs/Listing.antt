@@ -4,7 +4,7 @@
 --      outp | addr | data (base 16)
 --
 --       0:0 |    0 | 12 ; nop
-use Rattle.std.specs.Prelude.{Bool, cond, not, ◌||◌, ℕ, zero, suc, ◌+◌, ◌-◌, ◌*◌, ◌/◌, ◌%◌, max, eqb, ltb, length, get_or, replicate}
+use Rattle.std.specs.Prelude.{Bool, cond, not, ◌||◌, ℕ, zero, suc, ◌+◌, ◌-◌, ◌*◌, ◌/◌, ◌%◌, ◌≤◌, max, eqb, ltb, length, get_or, replicate}
 use mathlib.Core.List.{List, [], ◌∷◌, ◌++◌, flat_map}
 use Prim.Native.Char.{code}
 use Rattle.bitvec.specs.Size.{ceil_div}
@@ -18,15 +18,16 @@ use Rattle.digits.specs.Run.{digit_at}
 use Rattle.ordering.specs.Order.{absent, in_order}
 use Rattle.sources.specs.Sources.{excerpt_of}
 use Rattle.listing.specs.declared.FormatAnnotatedOptions.{FormatAnnotatedOptions}
+use Rattle.listing.specs.declared.SpanColumns.{SpanColumns}
 use Rattle.listing.specs.declared.Widths.{Widths}
 
--- The cause of refusal 2: a base, an address base, a number of digits per group or a label switch outside its range.
+-- An address base, a number of digits per group or a label switch outside its range.
+unfoldable pub out_of_range : FormatAnnotatedOptions → Bool
+out_of_range o = outside 2 36 o.addr_base || (outside 1 64 o.digits_per_group || ltb 1 o.display_labels)
+
+-- The cause of refusal 2: these, or a base that is none.
 unfoldable pub bad_annotated : FormatAnnotatedOptions → Bool
-bad_annotated o =
-    eqb (base_bits o.base) 0
-    || (outside 2 36 o.addr_base
-    || (outside 1 64 o.digits_per_group
-    || ltb 1 o.display_labels))
+bad_annotated o = eqb (base_bits o.base) 0 || out_of_range o
 
 -- The spans as lent: of each its offset (or absent), its size, its logical address, its file, and its start and end there.
 pub record Spans : Type 0 where
@@ -41,6 +42,19 @@ pub record Spans : Type 0 where
 abbrev pub spans_of : List ℕ → List ℕ → List ℕ → List ℕ → List ℕ → List ℕ → Spans
 spans_of offsets sizes addrs files starts ends =
     record { offsets = offsets; sizes = sizes; addrs = addrs; files = files; starts = starts; ends = ends }
+
+-- The spans of columns as lent.
+abbrev pub lent : SpanColumns → Spans
+lent c = spans_of c.offsets.now c.sizes.now c.addrs.now c.files.now c.starts.now c.ends.now
+
+-- Slices of unequal length, a cause of refusal 3. The sizes are looked at with the offsets.
+unfoldable pub unequal : Spans → Bool
+unequal s =
+    let n = length s.offsets in
+    not (eqb n (length s.addrs))
+    || (not (eqb n (length s.files))
+    || (not (eqb n (length s.starts))
+    || not (eqb n (length s.ends))))
 
 -- Document 01's "shown": a span is hidden when labels are off and its size is 0.
 unfoldable pub shown : FormatAnnotatedOptions → ℕ → Bool
@@ -84,6 +98,10 @@ wider o w offset size address =
       addr = max w.addr (digit_count o.addr_base address);
       content = max w.content (content_need o size);
     }
+
+-- Columns that are narrow, so that a length of them can be counted.
+abbrev pub Narrow : Widths → Type 0
+Narrow w = w.outp + w.outp_bit + w.addr + w.content ≤ 516
 
 -- The widths over the first n spans that have an offset, shown or hidden.
 unfoldable pub widths_of : FormatAnnotatedOptions → List ℕ → List ℕ → List ℕ → ℕ → Widths

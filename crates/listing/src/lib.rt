@@ -1,17 +1,117 @@
 // The columns of the annotated listing (document 01, module 9; the Rust's `format_annotated`): its
-// options, the widths of its columns, and its heading. A caller has shown that the options are in
-// their range, and that there is room.
+// spans, its options, the widths of its columns, and its heading. A caller has shown that there is
+// room.
 #![tactic(auto)]
 
-ghost use Rattle.std.specs.Prelude.{◌≡◌, false, ◌+◌, ◌≤◌, max, length};
+ghost use Rattle.std.specs.Prelude.{◌≡◌, true, false, not, ◌||◌, eqb, ◌+◌, ◌≤◌, ◌<◌, max, length, get_or, MatchOption};
 ghost use Rattle.output.specs.Writes.{Writes};
+ghost use Rattle.bases.specs.Base.{base_bits};
 ghost use Rattle.numbers.specs.Digits.{digit_count, padded};
-ghost use Rattle.listing.specs.Listing.{bad_annotated, content_need, addr_title, wider, widths_of, heading};
+ghost use Rattle.listing.specs.Listing.{lent, unequal, Narrow, out_of_range, bad_annotated, content_need, addr_title, wider, widths_of, heading};
 
 use numbers::{Letters, Radix};
-use ordering::ABSENT;
+use ordering::{ABSENT, SpanList};
 
-// The options of a listing. The label switch is 0 for off and 1 for on.
+// The spans of a listing as they are lent, a column for each number of a span; their lengths may differ.
+#[derive(Clone, Copy)]
+pub struct SpanColumns<'a> {
+    pub offsets: &'a [u32],
+    pub sizes: &'a [u32],
+    pub addrs: &'a [u64],
+    pub files: &'a [u8],
+    pub starts: &'a [u64],
+    pub ends: &'a [u64],
+}
+
+// A part of a source text: its file, by its number, and a start and an end there.
+#[derive(Clone, Copy)]
+pub struct Location {
+    pub file: u8,
+    pub start: u64,
+    pub end: u64,
+}
+
+// A span of a listing.
+#[derive(Clone, Copy)]
+pub struct ListedSpan {
+    pub offset: u32,
+    pub size: u32,
+    pub addr: u64,
+    pub location: Location,
+}
+
+// Spans whose columns are of one length.
+#[derive(Clone, Copy)]
+pub struct ListedSpans<'a> {
+    pub columns: SpanColumns<'a>,
+    pub ghost same_sizes: { length columns.sizes.now ≡ length columns.offsets.now },
+    pub ghost same_addrs: { length columns.addrs.now ≡ length columns.offsets.now },
+    pub ghost same_files: { length columns.files.now ≡ length columns.offsets.now },
+    pub ghost same_starts: { length columns.starts.now ≡ length columns.offsets.now },
+    pub ghost same_ends: { length columns.ends.now ≡ length columns.offsets.now },
+}
+
+impl<'a> SpanColumns<'a> {
+    // The location of the span at a place.
+    pub fn location(self, place: usize) -> Location
+        requires { (place < length self.files.now) × (place < length self.starts.now) × (place < length self.ends.now) }
+        ensures { result ≡ record { file = get_or self.entry.files.now place 0; start = get_or self.entry.starts.now place 0; end = get_or self.entry.ends.now place 0 } }
+    {
+        Location {
+            file: self.files[place],
+            start: self.starts[place],
+            end: self.ends[place],
+        }
+    }
+}
+
+impl<'a> ListedSpans<'a> {
+    // The spans of the lent columns, or none where these are not of one length, a cause of refusal 3.
+    #[tactic(auto, unfolding(crate::specs::Listing::unequal))]
+    pub fn new(columns: SpanColumns<'a>) -> Option<ListedSpans<'a>>
+        ensures { MatchOption result (unequal (lent columns.entry) || not (eqb (length columns.entry.offsets.now) (length columns.entry.sizes.now)) ≡ true) (λ s. s.columns ≡ columns.entry) }
+    {
+        let count = columns.offsets.len();
+        if count != columns.addrs.len()
+            || count != columns.files.len()
+            || count != columns.starts.len()
+            || count != columns.ends.len()
+            || count != columns.sizes.len()
+        {
+            return None;
+        }
+        Some(ListedSpans { columns })
+    }
+
+    // Their offsets and sizes.
+    pub fn list(self) -> SpanList<'a>
+        ensures { (result.offsets.now ≡ self.entry.columns.offsets.now) × (result.sizes.now ≡ self.entry.columns.sizes.now) }
+    {
+        SpanList {
+            offsets: self.columns.offsets,
+            sizes: self.columns.sizes,
+        }
+    }
+
+    // The span at a place.
+    pub fn span(self, place: usize) -> ListedSpan
+        requires { place < length self.columns.offsets.now }
+        ensures offset { result.offset ≡ get_or self.entry.columns.offsets.now place 0 }
+        ensures size { result.size ≡ get_or self.entry.columns.sizes.now place 0 }
+        ensures addr { result.addr ≡ get_or self.entry.columns.addrs.now place 0 }
+        ensures location { result.location ≡ record { file = get_or self.entry.columns.files.now place 0; start = get_or self.entry.columns.starts.now place 0; end = get_or self.entry.columns.ends.now place 0 } }
+    {
+        ListedSpan {
+            offset: self.columns.offsets[place],
+            size: self.columns.sizes[place],
+            addr: self.columns.addrs[place],
+            location: self.columns.location(place),
+        }
+    }
+}
+
+// The options of a listing. The label switch is 0 for off and 1 for on: a number, since the C interface
+// lends it.
 #[derive(Clone, Copy)]
 pub struct FormatAnnotatedOptions {
     pub base: usize,
@@ -20,7 +120,21 @@ pub struct FormatAnnotatedOptions {
     pub display_labels: u8,
 }
 
+// Options that are in their range, with the bits of a digit and the radix of the addresses.
+#[derive(Clone, Copy)]
+pub struct ListingOptions {
+    pub options: FormatAnnotatedOptions,
+    pub width: usize,
+    pub radix: Radix,
+    pub ghost in_range: { bad_annotated options ≡ false },
+    pub ghost bits: { width ≡ base_bits options.base },
+    pub ghost few: { (0 < width) × (width ≤ 5) },
+    pub ghost group: { (0 < options.digits_per_group) × (options.digits_per_group ≤ 64) },
+    pub ghost addresses: { radix.value ≡ options.addr_base },
+}
+
 // The widths of the columns: the position's byte and its bit, the logical address, and the contents.
+// That they are narrow is asked where a length is counted alone, so it is no part of the type.
 #[derive(Clone, Copy)]
 pub struct Widths {
     pub outp: usize,
@@ -29,24 +143,50 @@ pub struct Widths {
     pub content: usize,
 }
 
-// Whether an option is outside its range.
-pub fn bad_annotated(options: FormatAnnotatedOptions) -> bool
-    ensures { result ≡ bad_annotated options }
+// Whether an option but the base is outside its range.
+#[tactic(auto, unfolding(crate::specs::Listing::out_of_range))]
+fn out_of_range(options: FormatAnnotatedOptions) -> bool
+    ensures { result ≡ out_of_range options }
 {
-    if bases::base_bits(options.base) == 0 {
-        return true;
+    outcome::outside(2, 36, options.addr_base)
+        || outcome::outside(1, 64, options.digits_per_group)
+        || 1 < options.display_labels
+}
+
+impl ListingOptions {
+    #[tactic(auto, using(crate::proofs::Columns::bad_base, crate::proofs::Columns::bad_other, crate::proofs::Columns::none_bad, crate::proofs::Columns::radix_inside, crate::proofs::Columns::group_inside))]
+    // The options, or none where one of them is outside its range, the cause of refusal 2.
+    pub fn new(options: FormatAnnotatedOptions) -> Option<ListingOptions>
+        ensures { MatchOption result (bad_annotated options ≡ true) (λ o. o.options ≡ options) }
+    {
+        let width = bases::base_bits(options.base)?;
+        if out_of_range(options) {
+            return None;
+        }
+        let radix = Radix::new(options.addr_base as u64);
+        Some(ListingOptions {
+            options,
+            width,
+            radix,
+        })
     }
-    if outcome::outside(2, 36, options.addr_base) {
-        return true;
+
+    // What the contents of a span of `size` bits ask of the width of their column.
+    fn content_need(self, size: u32) -> usize
+        ensures { (result ≡ content_need self.options size) × (result ≤ 324) }
+    {
+        let group = self.options.digits_per_group;
+        let digits = bitvec::parts(size as usize, self.width);
+        let wide = digits + digits / group;
+        if wide < 2 || (group + 1) * 5 < wide {
+            return 0;
+        }
+        wide - 1
     }
-    if outcome::outside(1, 64, options.digits_per_group) {
-        return true;
-    }
-    1 < options.display_labels
 }
 
 // How many digits a number has in the base of the addresses. Base 16, the most frequent one, has a loop
-// of its own, which divides by no variable.
+// of its own, which divides by no variable: without it the listing misses its bar of speed.
 pub fn digit_count(value: u64, radix: u64) -> usize
     requires { 2 ≤ radix }
     ensures { result ≡ digit_count radix value }
@@ -57,49 +197,25 @@ pub fn digit_count(value: u64, radix: u64) -> usize
     numbers::digit_count(value, radix)
 }
 
-// What the contents of a span of `size` bits ask of the width of their column.
-fn content_need(options: FormatAnnotatedOptions, size: u32) -> usize
-    requires { bad_annotated options ≡ false }
-    ensures { (result ≡ content_need options size) × (result ≤ 324) }
-{
-    let digits = bitvec::parts(size as usize, bases::base_bits(options.base));
-    let wide = digits + digits / options.digits_per_group;
-    if wide < 2 {
-        return 0;
-    }
-    if (options.digits_per_group + 1) * 5 < wide {
-        return 0;
-    }
-    wide - 1
-}
-
 // The length of the title of the column of addresses.
-fn title_length(addr_base: usize) -> usize
-    requires { addr_base ≤ 36 }
-    ensures { (result ≡ length (addr_title addr_base)) × (result ≤ 14) }
+fn title_length(radix: Radix) -> usize
+    ensures { (result ≡ length (addr_title radix.value)) × (result ≤ 14) }
 {
-    if addr_base == 16 {
+    if radix.value == 16 {
         return 4;
     }
-    12 + numbers::digit_count(addr_base as u64, 10)
+    12 + numbers::digit_count(radix.value, 10)
 }
 
 // The widths with one span more.
-fn wider(
-    options: FormatAnnotatedOptions,
-    widths: Widths,
-    offset: u32,
-    size: u32,
-    addr: u64,
-) -> Widths
-    requires { bad_annotated options ≡ false }
-    ensures { (result ≡ wider options widths offset size addr) × (result.outp ≤ max widths.outp 64) × (result.outp_bit ≤ max widths.outp_bit 64) × (result.addr ≤ max widths.addr 64) × (result.content ≤ max widths.content 324) }
+fn wider(options: ListingOptions, widths: Widths, offset: u32, size: u32, addr: u64) -> Widths
+    ensures { (result ≡ wider options.options widths offset size addr) × (result.outp ≤ max widths.outp 64) × (result.outp_bit ≤ max widths.outp_bit 64) × (result.addr ≤ max widths.addr 64) × (result.content ≤ max widths.content 324) }
 {
-    let radix = options.addr_base as u64;
+    let radix = options.radix.value;
     let byte = digit_count((offset / 8) as u64, radix);
     let bit = digit_count((offset % 8) as u64, radix);
     let address = digit_count(addr, radix);
-    let content = content_need(options, size);
+    let content = options.content_need(size);
     Widths {
         outp: widths.outp.max(byte),
         outp_bit: widths.outp_bit.max(bit),
@@ -108,75 +224,66 @@ fn wider(
     }
 }
 
-// The widths over all spans that have an offset.
+// The widths over all spans that have an offset. The loop counts places, since one place is that of
+// three numbers: three iterators in step are no plainer.
 #[tactic(auto, using(crate::proofs::Columns::widths_absent, crate::proofs::Columns::widths_present))]
-pub fn column_widths(
-    options: FormatAnnotatedOptions,
-    offsets: &[u32],
-    sizes: &[u32],
-    addrs: &[u64],
-) -> Widths
-    requires { (bad_annotated options ≡ false) × (length sizes.now ≡ length offsets.now) × (length addrs.now ≡ length offsets.now) }
-    ensures measured { result ≡ widths_of options offsets.now sizes.now addrs.now (length offsets.now) }
-    ensures small { result.outp + result.outp_bit + result.addr + result.content ≤ 516 }
+pub fn column_widths(options: ListingOptions, spans: SpanList, addrs: &[u64]) -> Widths
+    requires { length addrs.now ≡ length spans.offsets.now }
+    ensures measured { result ≡ widths_of options.options spans.entry.offsets.now spans.entry.sizes.now addrs.now (length spans.entry.offsets.now) }
+    ensures small { Narrow result }
 {
-    let title = title_length(options.addr_base);
+    let title = title_length(options.radix);
     let mut widths = Widths {
         outp: 2,
         outp_bit: 1,
         addr: title,
-        content: options.digits_per_group,
+        content: options.options.digits_per_group,
     };
-    for p in 0..offsets.len() {
-        if offsets[p] != ABSENT {
-            widths = wider(options, widths, offsets[p], sizes[p], addrs[p]);
+    for (p, &offset) in spans.offsets.iter().enumerate() {
+        if offset != ABSENT {
+            widths = wider(options, widths, offset, spans.sizes[p], addrs[p]);
         }
     }
     widths
 }
 
 // Stores the title of the column of addresses.
-fn put_title(out: &mut [u8], at: usize, addr_base: usize, width: usize) -> usize
-    requires { (addr_base ≤ 36) × (at + max width (length (addr_title addr_base)) ≤ length out.old) }
-    ensures { Writes (padded 32 width (addr_title addr_base)) out.old at out.new result }
+fn put_title(out: &mut [u8], at: usize, radix: Radix, width: usize) -> usize
+    requires { at + max width (length (addr_title radix.value)) ≤ length out.old }
+    ensures { Writes (padded 32 width (addr_title radix.value)) out.old at out.new result }
 {
-    if addr_base == 16 {
+    if radix.value == 16 {
         return numbers::put_right(out, at, b"addr", width);
     }
-    let free = width.saturating_sub(title_length(addr_base));
+    let free = width.saturating_sub(title_length(radix));
     let mut next = output::put_fill(out, at, b' ', free);
     next = output::put_all(out, next, b"addr (base ");
-    next = numbers::put_number(out, next, Letters::Lower, addr_base as u64, Radix::DECIMAL);
+    next = numbers::put_number(out, next, Letters::Lower, radix.value, Radix::DECIMAL);
     output::put_all(out, next, b")")
 }
 
 // The length of the heading.
-pub fn heading_length(options: FormatAnnotatedOptions, widths: Widths) -> usize
-    requires { (bad_annotated options ≡ false) × (widths.outp + widths.outp_bit + widths.addr + widths.content ≤ 516) }
-    ensures { (result ≡ length (heading options widths)) × (result ≤ 700) }
+pub fn heading_length(options: ListingOptions, widths: Widths) -> usize
+    requires { Narrow widths }
+    ensures { (result ≡ length (heading options.options widths)) × (result ≤ 700) }
 {
     let outp = (widths.outp + widths.outp_bit + 1).max(4);
-    let addr = widths.addr.max(title_length(options.addr_base));
-    let base = numbers::digit_count(options.base as u64, 10);
+    let addr = widths.addr.max(title_length(options.radix));
+    let base = numbers::digit_count(options.options.base as u64, 10);
     21 + outp + addr + base
 }
 
 // Stores the heading.
-pub fn put_heading(out: &mut [u8], options: FormatAnnotatedOptions, widths: Widths) -> usize
-    requires { (bad_annotated options ≡ false) × (widths.outp + widths.outp_bit + widths.addr + widths.content ≤ 516) × (length (heading options widths) ≤ length out.old) }
-    ensures { Writes (heading options widths) out.old 0 out.new result }
+pub fn put_heading(out: &mut [u8], options: ListingOptions, widths: Widths) -> usize
+    requires { length (heading options.options widths) ≤ length out.old }
+    ensures { Writes (heading options.options widths) out.old 0 out.new result }
 {
     let mut next = output::put(out, 0, b' ');
     next = numbers::put_right(out, next, b"outp", widths.outp + widths.outp_bit + 1);
     next = output::put_all(out, next, b" | ");
-    next = put_title(out, next, options.addr_base, widths.addr);
+    next = put_title(out, next, options.radix, widths.addr);
     next = output::put_all(out, next, b" | data (base ");
-    next = numbers::put_number(
-        out,
-        next,
-        Letters::Lower,
-        options.base as u64,
-        Radix::DECIMAL,
-    );
+    let base = options.options.base as u64;
+    next = numbers::put_number(out, next, Letters::Lower, base, Radix::DECIMAL);
     output::put_all(out, next, b")\n\n")
 }

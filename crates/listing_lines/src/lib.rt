@@ -1,29 +1,28 @@
 // The lines of the annotated listing (document 01, module 9; the Rust's `format_annotated`): the
 // position, the logical address, the contents and the excerpt of one span. A caller has shown that
-// the options are in their range, that the columns are narrow, and that there is room.
+// there is room.
 #![tactic(auto)]
 
-ghost use Rattle.std.specs.Prelude.{◌≡◌, false, List, ℕ, ◌+◌, ◌/◌, ◌%◌, ◌≤◌, ◌<◌, ◌^◌, max, length};
+ghost use Rattle.std.specs.Prelude.{◌≡◌, List, ℕ, ◌+◌, ◌/◌, ◌%◌, ◌≤◌, ◌<◌, ◌^◌, max, length};
 ghost use Rattle.output.specs.Writes.{Writes};
 ghost use Rattle.numbers.specs.declared.Letters.TheVariants.{Lower};
 ghost use Rattle.numbers.specs.Digits.{digit_count, number_text, padded};
-ghost use Rattle.listing.specs.Listing.{bad_annotated, contents, at_left, place, position, line_text};
+ghost use Rattle.listing.specs.Listing.{Narrow, contents, at_left, place, position, line_text};
 ghost use Rattle.listing_lines.specs.Fits.{NumberFits, SpanFits};
 
 use bitvec::Image;
-use listing::{FormatAnnotatedOptions, Widths};
-use numbers::Letters;
+use listing::{ListedSpan, ListingOptions, Widths};
+use numbers::{Letters, Radix};
 use ordering::ABSENT;
 
-// Stores a number in a radix of 2 to 36 that fits in a width, filled with spaces on its left to it. Base
-// 16, the most frequent one, has a loop of its own, which divides by no variable.
-fn put_number(out: &mut [u8], at: usize, value: u64, radix: u64, width: usize) -> usize
-    requires range { (2 ≤ radix) × (radix ≤ 36) }
-    requires fits { (digit_count radix value ≤ width) × (at + width ≤ length out.old) }
-    ensures { Writes (padded 32 width (number_text Lower radix value)) out.old at out.new result }
+// Stores a number that fits in a width, filled with spaces on its left to it. Base 16, the most frequent
+// one, has a loop of its own, which divides by no variable.
+fn put_number(out: &mut [u8], at: usize, value: u64, radix: Radix, width: usize) -> usize
+    requires { (digit_count radix.value value ≤ width) × (at + width ≤ length out.old) }
+    ensures { Writes (padded 32 width (number_text Lower radix.value value)) out.old at out.new result }
 {
-    if radix == 16 {
-        return numbers::put_column(out, at, Letters::Lower, value, 16, b' ', width);
+    if radix.value == 16 {
+        return numbers::put_column(out, at, Letters::Lower, value, Radix::HEX, b' ', width);
     }
     numbers::put_column(out, at, Letters::Lower, value, radix, b' ', width)
 }
@@ -32,32 +31,31 @@ fn put_number(out: &mut [u8], at: usize, value: u64, radix: u64, width: usize) -
 fn put_place(
     out: &mut [u8],
     at: usize,
-    options: FormatAnnotatedOptions,
+    options: ListingOptions,
     width: usize,
     offset: u32,
     number: u32,
     dashes: &[u8],
 ) -> usize
-    requires { (bad_annotated options ≡ false) × NumberFits options width offset number × (at + length (place options width offset number dashes.now) ≤ length out.old) }
-    ensures { Writes (place options width offset number dashes.now) out.old at out.new result }
+    requires { NumberFits options.options width offset number × (at + length (place options.options width offset number dashes.now) ≤ length out.old) }
+    ensures { Writes (place options.options width offset number dashes.now) out.old at out.new result }
 {
     if offset == ABSENT {
         return numbers::put_right(out, at, dashes, width);
     }
-    let radix = options.addr_base as u64;
-    put_number(out, at, number as u64, radix, width)
+    put_number(out, at, number as u64, options.radix, width)
 }
 
 // The length of a number of a span's position, or of so many dashes.
 fn place_length(
-    options: FormatAnnotatedOptions,
+    options: ListingOptions,
     width: usize,
     offset: u32,
     number: u32,
     dashes: usize,
 ) -> usize
-    requires { NumberFits options width offset number × (width ≤ 516) × (dashes ≤ 2) }
-    ensures { ((t : List ℕ) → length t ≡ dashes → length (place options width offset number t) ≡ result) × (result ≤ 516) }
+    requires { NumberFits options.options width offset number × (width ≤ 516) × (dashes ≤ 2) }
+    ensures { ((t : List ℕ) → length t ≡ dashes → length (place options.options width offset number t) ≡ result) × (result ≤ 516) }
 {
     if offset == ABSENT {
         return width.max(dashes);
@@ -69,12 +67,12 @@ fn place_length(
 fn put_position(
     out: &mut [u8],
     at: usize,
-    options: FormatAnnotatedOptions,
+    options: ListingOptions,
     widths: Widths,
     offset: u32,
 ) -> usize
-    requires { (bad_annotated options ≡ false) × NumberFits options widths.outp offset (offset / 8) × NumberFits options widths.outp_bit offset (offset % 8) × (at + length (position options widths offset) ≤ length out.old) }
-    ensures { Writes (position options widths offset) out.old at out.new result }
+    requires { NumberFits options.options widths.outp offset (offset / 8) × NumberFits options.options widths.outp_bit offset (offset % 8) × (at + length (position options.options widths offset) ≤ length out.old) }
+    ensures { Writes (position options.options widths offset) out.old at out.new result }
 {
     let mut next = output::put(out, at, b' ');
     next = put_place(out, next, options, widths.outp, offset, offset / 8, b"--");
@@ -91,9 +89,9 @@ fn put_position(
 }
 
 // The length of the position of a span.
-fn position_length(options: FormatAnnotatedOptions, widths: Widths, offset: u32) -> usize
-    requires { NumberFits options widths.outp offset (offset / 8) × NumberFits options widths.outp_bit offset (offset % 8) × (widths.outp + widths.outp_bit + widths.addr + widths.content ≤ 516) }
-    ensures { (result ≡ length (position options widths offset)) × (result ≤ 2000) }
+fn position_length(options: ListingOptions, widths: Widths, offset: u32) -> usize
+    requires { NumberFits options.options widths.outp offset (offset / 8) × NumberFits options.options widths.outp_bit offset (offset % 8) × Narrow widths }
+    ensures { (result ≡ length (position options.options widths offset)) × (result ≤ 2000) }
 {
     let byte = place_length(options, widths.outp, offset, offset / 8, 2);
     let bit = place_length(options, widths.outp_bit, offset, offset % 8, 1);
@@ -104,28 +102,27 @@ fn position_length(options: FormatAnnotatedOptions, widths: Widths, offset: u32)
 fn put_address(
     out: &mut [u8],
     at: usize,
-    options: FormatAnnotatedOptions,
+    options: ListingOptions,
     width: usize,
     offset: u32,
     addr: u64,
 ) -> usize
-    requires { (bad_annotated options ≡ false) × NumberFits options width offset addr × (at + max width (digit_count options.addr_base addr) ≤ length out.old) }
-    ensures { Writes (padded 32 width (number_text Lower options.addr_base addr)) out.old at out.new result }
+    requires { NumberFits options.options width offset addr × (at + max width (digit_count options.options.addr_base addr) ≤ length out.old) }
+    ensures { Writes (padded 32 width (number_text Lower options.options.addr_base addr)) out.old at out.new result }
 {
-    let radix = options.addr_base as u64;
     if offset == ABSENT {
-        return numbers::put_padded(out, at, Letters::Lower, addr, radix, b' ', width);
+        return numbers::put_padded(out, at, Letters::Lower, addr, options.radix, b' ', width);
     }
-    put_number(out, at, addr, radix, width)
+    put_number(out, at, addr, options.radix, width)
 }
 
 // The length of the logical address of a span: that of its column, but where the span has no offset.
-fn address_length(options: FormatAnnotatedOptions, width: usize, offset: u32, addr: u64) -> usize
-    requires { (bad_annotated options ≡ false) × NumberFits options width offset addr }
-    ensures { result ≡ max width (digit_count options.addr_base addr) }
+fn address_length(options: ListingOptions, width: usize, offset: u32, addr: u64) -> usize
+    requires { NumberFits options.options width offset addr }
+    ensures { result ≡ max width (digit_count options.options.addr_base addr) }
 {
     if offset == ABSENT {
-        let digits = listing::digit_count(addr, options.addr_base as u64);
+        let digits = listing::digit_count(addr, options.radix.value);
         return width.max(digits);
     }
     width
@@ -136,13 +133,13 @@ fn put_column(
     out: &mut [u8],
     at: usize,
     image: Image,
-    options: FormatAnnotatedOptions,
+    options: ListingOptions,
     width: usize,
     offset: u32,
     size: u32,
 ) -> usize
-    requires { (bad_annotated options ≡ false) × (at + length (at_left width (contents options image.bytes.now image.len offset size)) ≤ length out.old) }
-    ensures { Writes (at_left width (contents options image.entry.bytes.now image.entry.len offset size)) out.old at out.new result }
+    requires { at + length (at_left width (contents options.options image.bytes.now image.len offset size)) ≤ length out.old }
+    ensures { Writes (at_left width (contents options.options image.entry.bytes.now image.entry.len offset size)) out.old at out.new result }
 {
     let next = listing_contents::put_contents(out, at, image, options, offset, size);
     let free = width.saturating_sub(listing_contents::contents_length(options, size));
@@ -151,21 +148,19 @@ fn put_column(
 
 // The length of the line of a span with an excerpt of `excerpt` bytes.
 pub fn line_length(
-    options: FormatAnnotatedOptions,
+    options: ListingOptions,
     widths: Widths,
-    offset: u32,
-    size: u32,
-    addr: u64,
+    span: ListedSpan,
     excerpt: usize,
 ) -> usize
-    requires { (bad_annotated options ≡ false) × (widths.outp + widths.outp_bit + widths.addr + widths.content ≤ 516) × (excerpt ≤ 1048576) × SpanFits options widths offset addr }
-    ensures { ((bytes : List ℕ) (len : ℕ) (t : List ℕ) → length t ≡ excerpt → length (line_text options widths bytes len offset size addr t) ≡ result) × (result < 2 ^ 35) }
+    requires { Narrow widths × (excerpt ≤ 1048576) × SpanFits options.options widths span.offset span.addr }
+    ensures { ((bytes : List ℕ) (len : ℕ) (t : List ℕ) → length t ≡ excerpt → length (line_text options.options widths bytes len span.offset span.size span.addr t) ≡ result) × (result < 2 ^ 35) }
 {
-    let position = position_length(options, widths, offset);
-    let address = address_length(options, widths.addr, offset, addr);
+    let position = position_length(options, widths, span.offset);
+    let address = address_length(options, widths.addr, span.offset, span.addr);
     let content = widths
         .content
-        .max(listing_contents::contents_length(options, size));
+        .max(listing_contents::contents_length(options, span.size));
     position + address + content + excerpt + 10
 }
 
@@ -174,21 +169,19 @@ pub fn put_line(
     out: &mut [u8],
     at: usize,
     image: Image,
-    options: FormatAnnotatedOptions,
+    options: ListingOptions,
     widths: Widths,
-    offset: u32,
-    size: u32,
-    addr: u64,
+    span: ListedSpan,
     excerpt: &[u8],
 ) -> usize
-    requires { (bad_annotated options ≡ false) × SpanFits options widths offset addr × (at + length (line_text options widths image.bytes.now image.len offset size addr excerpt.now) ≤ length out.old) }
-    ensures { Writes (line_text options widths image.entry.bytes.now image.entry.len offset size addr excerpt.now) out.old at out.new result }
+    requires { SpanFits options.options widths span.offset span.addr × (at + length (line_text options.options widths image.bytes.now image.len span.offset span.size span.addr excerpt.now) ≤ length out.old) }
+    ensures { Writes (line_text options.options widths image.entry.bytes.now image.entry.len span.offset span.size span.addr excerpt.now) out.old at out.new result }
 {
-    let mut next = put_position(out, at, options, widths, offset);
+    let mut next = put_position(out, at, options, widths, span.offset);
     next = output::put_all(out, next, b" | ");
-    next = put_address(out, next, options, widths.addr, offset, addr);
+    next = put_address(out, next, options, widths.addr, span.offset, span.addr);
     next = output::put_all(out, next, b" | ");
-    next = put_column(out, next, image, options, widths.content, offset, size);
+    next = put_column(out, next, image, options, widths.content, span.offset, span.size);
     next = output::put_all(out, next, b" ; ");
     next = output::put_all(out, next, excerpt);
     output::put(out, next, b'\n')

@@ -2,210 +2,157 @@
 // that cannot be shown, and the lines of those that are shown, in the order of the places lent.
 #![tactic(auto)]
 
-ghost use Rattle.std.specs.Prelude.{◌≡◌, false, ℕ, ◌+◌, ◌≤◌, ◌<◌, ◌^◌, length};
+ghost use Rattle.std.specs.Prelude.{◌≡◌, false, ℕ, ◌+◌, ◌≤◌, ◌<◌, ◌^◌, length, unwrap_or, IfSome};
 ghost use mathlib.Core.List.{List, flat_map};
 ghost use Rattle.output.specs.Writes.{Writes};
 ghost use Rattle.ordering.specs.Lists.{Each};
 ghost use Rattle.sources.specs.Sources.{excerpt_of};
-ghost use Rattle.listing.specs.Listing.{bad_annotated, widths_of, spans_of, shown, span_line, line_at};
+ghost use Rattle.listing.specs.Listing.{lent, Narrow, widths_of, shown, span_line, line_at};
 ghost use Rattle.listing_lines.specs.Fits.{SpanFits};
 ghost use Rattle.listing_spans.specs.Faults.{misplaced, faulty, span_fault};
 
 use bitvec::Image;
-use listing::{FormatAnnotatedOptions, Widths};
+use listing::{FormatAnnotatedOptions, ListedSpan, ListedSpans, ListingOptions, Location, SpanColumns, Widths};
 use ordering::ABSENT;
+use sources::Sources;
 
-// The start that says that a span has no location.
+// The start that says that a span has no location: a number, since the C interface lends it.
 pub const NO_LOCATION: u64 = 18446744073709551615;
 
 // Whether a span is shown.
+#[tactic(auto, unfolding(listing::specs::Listing::shown))]
 fn shown(options: FormatAnnotatedOptions, size: u32) -> bool
     ensures { result ≡ shown options size }
 {
-    if options.display_labels != 0 {
-        return true;
-    }
-    size != 0
+    options.display_labels != 0 || size != 0
 }
 
 // Whether a location has a fault.
-fn misplaced(firmware: &[u8], protocol: &[u8], file: u8, start: u64, end: u64) -> bool
-    ensures { result ≡ misplaced firmware.now protocol.now file start end }
+#[tactic(auto, unfolding(crate::specs::Faults::misplaced))]
+fn misplaced(sources: Sources, location: Location) -> bool
+    ensures { result ≡ misplaced sources.entry.firmware.now sources.entry.protocol.now location.file location.start location.end }
 {
-    if 1 < file {
-        return true;
-    }
-    if start == NO_LOCATION {
-        return true;
-    }
-    if end < start {
-        return true;
-    }
-    (sources::source_length(firmware, protocol, file) as u64) < end
+    1 < location.file
+        || location.start == NO_LOCATION
+        || location.end < location.start
+        || (sources.source_length(location.file) as u64) < location.end
 }
 
 // Whether a span is shown and cannot be.
+#[tactic(auto, unfolding(crate::specs::Faults::faulty))]
 fn faulty(
     options: FormatAnnotatedOptions,
-    firmware: &[u8],
-    protocol: &[u8],
+    sources: Sources,
     offset: u32,
     size: u32,
-    file: u8,
-    start: u64,
-    end: u64,
+    location: Location,
 ) -> bool
-    ensures { result ≡ faulty options firmware.now protocol.now offset size file start end }
+    ensures { result ≡ faulty options sources.entry.firmware.now sources.entry.protocol.now offset size location.file location.start location.end }
 {
-    if shown(options, size) {
-        if misplaced(firmware, protocol, file, start, end) {
-            return true;
-        }
-        if offset == ABSENT {
-            return size != 0;
-        }
-    }
-    false
+    shown(options, size) && (misplaced(sources, location) || offset == ABSENT && size != 0)
 }
 
-// The place of the first span that is shown and cannot be, or their number where there is none.
+// The place of the first span that is shown and cannot be.
 pub fn span_fault(
     options: FormatAnnotatedOptions,
-    offsets: &[u32],
-    sizes: &[u32],
-    files: &[u8],
-    starts: &[u64],
-    ends: &[u64],
-    firmware: &[u8],
-    protocol: &[u8],
-) -> usize
-    requires { (length sizes.now ≡ length offsets.now) × (length files.now ≡ length offsets.now) × (length starts.now ≡ length offsets.now) × (length ends.now ≡ length offsets.now) }
-    ensures { (addrs : List ℕ) → result ≡ span_fault options (spans_of offsets.now sizes.now addrs files.now starts.now ends.now) firmware.now protocol.now }
+    columns: SpanColumns,
+    sources: Sources,
+) -> Option<usize>
+    requires { (length columns.sizes.now ≡ length columns.offsets.now) × (length columns.files.now ≡ length columns.offsets.now) × (length columns.starts.now ≡ length columns.offsets.now) × (length columns.ends.now ≡ length columns.offsets.now) }
+    ensures place { unwrap_or result (length columns.entry.offsets.now) ≡ span_fault options (lent columns.entry) sources.entry.firmware.now sources.entry.protocol.now }
+    ensures inside { IfSome result (λ p. p < length columns.entry.offsets.now) }
 {
-    for p in 0..offsets.len() {
-        if faulty(
-            options, firmware, protocol, offsets[p], sizes[p], files[p], starts[p], ends[p],
-        ) {
-            return p;
+    for (p, &offset) in columns.offsets.iter().enumerate() {
+        if faulty(options, sources, offset, columns.sizes[p], columns.location(p)) {
+            return Some(p);
         }
     }
-    offsets.len()
+    None
 }
 
-// The length of the line of a span, 0 where it is hidden. The two texts have one lifetime here and
-// below, that of the excerpt.
-fn span_length<'a>(
-    options: FormatAnnotatedOptions,
+// The length of the line of a span, 0 where it is hidden.
+fn span_length(
+    options: ListingOptions,
     widths: Widths,
-    offset: u32,
-    size: u32,
-    addr: u64,
-    firmware: &'a [u8],
-    protocol: &'a [u8],
-    file: u8,
-    start: u64,
-    end: u64,
+    span: ListedSpan,
+    sources: Sources,
 ) -> usize
-    requires narrow { (bad_annotated options ≡ false) × (widths.outp + widths.outp_bit + widths.addr + widths.content ≤ 516) × SpanFits options widths offset addr }
-    requires sound { (length firmware.now ≤ 1048576) × (length protocol.now ≤ 1048576) × (faulty options firmware.now protocol.now offset size file start end ≡ false) }
-    ensures { ((bytes : List ℕ) (len : ℕ) → length (span_line options widths bytes len offset size addr (excerpt_of firmware.now protocol.now file start end)) ≡ result) × (result < 2 ^ 35) }
+    requires narrow { Narrow widths × SpanFits options.options widths span.offset span.addr }
+    requires sound { (length sources.firmware.now ≤ 1048576) × (length sources.protocol.now ≤ 1048576) × (faulty options.options sources.firmware.now sources.protocol.now span.offset span.size span.location.file span.location.start span.location.end ≡ false) }
+    ensures { ((bytes : List ℕ) (len : ℕ) → length (span_line options.options widths bytes len span.offset span.size span.addr (excerpt_of sources.entry.firmware.now sources.entry.protocol.now span.location.file span.location.start span.location.end)) ≡ result) × (result < 2 ^ 35) }
 {
-    if shown(options, size) {
-        let text = sources::excerpt(firmware, protocol, file, start as usize, end as usize);
-        return listing_lines::line_length(options, widths, offset, size, addr, text.len());
+    if shown(options.options, span.size) {
+        let Location { file, start, end } = span.location;
+        let text = sources.excerpt(file, start as usize, end as usize);
+        return listing_lines::line_length(options, widths, span, text.len());
     }
     0
 }
 
 // Stores the line of a span, and nothing where it is hidden.
-fn put_span<'a>(
+fn put_span(
     out: &mut [u8],
     at: usize,
     image: Image,
-    options: FormatAnnotatedOptions,
+    options: ListingOptions,
     widths: Widths,
-    offset: u32,
-    size: u32,
-    addr: u64,
-    firmware: &'a [u8],
-    protocol: &'a [u8],
-    file: u8,
-    start: u64,
-    end: u64,
+    span: ListedSpan,
+    sources: Sources,
 ) -> usize
-    requires sound { (bad_annotated options ≡ false) × SpanFits options widths offset addr × (faulty options firmware.now protocol.now offset size file start end ≡ false) }
-    requires room { at + length (span_line options widths image.bytes.now image.len offset size addr (excerpt_of firmware.now protocol.now file start end)) ≤ length out.old }
-    ensures { Writes (span_line options widths image.entry.bytes.now image.entry.len offset size addr (excerpt_of firmware.now protocol.now file start end)) out.old at out.new result }
+    requires sound { SpanFits options.options widths span.offset span.addr × (faulty options.options sources.firmware.now sources.protocol.now span.offset span.size span.location.file span.location.start span.location.end ≡ false) }
+    requires room { at + length (span_line options.options widths image.bytes.now image.len span.offset span.size span.addr (excerpt_of sources.firmware.now sources.protocol.now span.location.file span.location.start span.location.end)) ≤ length out.old }
+    ensures { Writes (span_line options.options widths image.entry.bytes.now image.entry.len span.offset span.size span.addr (excerpt_of sources.entry.firmware.now sources.entry.protocol.now span.location.file span.location.start span.location.end)) out.old at out.new result }
 {
-    if shown(options, size) {
-        let text = sources::excerpt(firmware, protocol, file, start as usize, end as usize);
-        return listing_lines::put_line(out, at, image, options, widths, offset, size, addr, text);
+    if shown(options.options, span.size) {
+        let Location { file, start, end } = span.location;
+        let text = sources.excerpt(file, start as usize, end as usize);
+        return listing_lines::put_line(out, at, image, options, widths, span, text);
     }
     at
 }
 
 // The length of the lines of the spans at the lent places.
-pub fn lines_length<'a>(
-    options: FormatAnnotatedOptions,
+pub fn lines_length(
+    options: ListingOptions,
     widths: Widths,
     places: &[u32],
-    offsets: &[u32],
-    sizes: &[u32],
-    addrs: &[u64],
-    files: &[u8],
-    starts: &[u64],
-    ends: &[u64],
-    firmware: &'a [u8],
-    protocol: &'a [u8],
+    spans: ListedSpans,
+    sources: Sources,
 ) -> usize
-    requires narrow { (bad_annotated options ≡ false) × (widths.outp + widths.outp_bit + widths.addr + widths.content ≤ 516) × (widths ≡ widths_of options offsets.now sizes.now addrs.now (length offsets.now)) }
-    requires lengths { (length sizes.now ≡ length offsets.now) × (length addrs.now ≡ length offsets.now) × (length files.now ≡ length offsets.now) × (length starts.now ≡ length offsets.now) × (length ends.now ≡ length offsets.now) }
-    requires sound { (length firmware.now ≤ 1048576) × (length protocol.now ≤ 1048576) × (span_fault options (spans_of offsets.now sizes.now addrs.now files.now starts.now ends.now) firmware.now protocol.now ≡ length offsets.now) }
-    requires places { (length places.now ≤ 4096) × Each (λ p. p < length offsets.now) places.now }
-    ensures { ((bytes : List ℕ) (len : ℕ) → length (flat_map (line_at options widths bytes len (spans_of offsets.now sizes.now addrs.now files.now starts.now ends.now) firmware.now protocol.now) places.now) ≡ result) × (result ≤ 2 ^ 47) }
+    requires narrow { Narrow widths × (widths ≡ widths_of options.options spans.columns.offsets.now spans.columns.sizes.now spans.columns.addrs.now (length spans.columns.offsets.now)) }
+    requires sound { (length sources.firmware.now ≤ 1048576) × (length sources.protocol.now ≤ 1048576) × (span_fault options.options (lent spans.columns) sources.firmware.now sources.protocol.now ≡ length spans.columns.offsets.now) }
+    requires places { (length places.now ≤ 4096) × Each (λ p. p < length spans.columns.offsets.now) places.now }
+    ensures { ((bytes : List ℕ) (len : ℕ) → length (flat_map (line_at options.options widths bytes len (lent spans.entry.columns) sources.entry.firmware.now sources.entry.protocol.now) places.now) ≡ result) × (result ≤ 2 ^ 47) }
 {
     let mut needed = 0;
-    for k in 0..places.len() {
-        let p = places[k] as usize;
-        needed += span_length(
-            options, widths, offsets[p], sizes[p], addrs[p], firmware, protocol, files[p],
-            starts[p], ends[p],
-        );
+    for &place in places {
+        let span = spans.span(place as usize);
+        needed += span_length(options, widths, span, sources);
     }
     needed
 }
 
 // Stores the lines of the spans at the lent places.
-pub fn put_lines<'a>(
+pub fn put_lines(
     out: &mut [u8],
     at: usize,
     image: Image,
-    options: FormatAnnotatedOptions,
+    options: ListingOptions,
     widths: Widths,
     places: &[u32],
-    offsets: &[u32],
-    sizes: &[u32],
-    addrs: &[u64],
-    files: &[u8],
-    starts: &[u64],
-    ends: &[u64],
-    firmware: &'a [u8],
-    protocol: &'a [u8],
+    spans: ListedSpans,
+    sources: Sources,
 ) -> usize
-    requires options { (bad_annotated options ≡ false) × (widths ≡ widths_of options offsets.now sizes.now addrs.now (length offsets.now)) }
-    requires lengths { (length sizes.now ≡ length offsets.now) × (length addrs.now ≡ length offsets.now) × (length files.now ≡ length offsets.now) × (length starts.now ≡ length offsets.now) × (length ends.now ≡ length offsets.now) }
-    requires sound { span_fault options (spans_of offsets.now sizes.now addrs.now files.now starts.now ends.now) firmware.now protocol.now ≡ length offsets.now }
-    requires places { Each (λ p. p < length offsets.now) places.now }
-    requires room { at + length (flat_map (line_at options widths image.bytes.now image.len (spans_of offsets.now sizes.now addrs.now files.now starts.now ends.now) firmware.now protocol.now) places.now) ≤ length out.old }
-    ensures { Writes (flat_map (line_at options widths image.entry.bytes.now image.entry.len (spans_of offsets.now sizes.now addrs.now files.now starts.now ends.now) firmware.now protocol.now) places.now) out.old at out.new result }
+    requires widths { widths ≡ widths_of options.options spans.columns.offsets.now spans.columns.sizes.now spans.columns.addrs.now (length spans.columns.offsets.now) }
+    requires sound { span_fault options.options (lent spans.columns) sources.firmware.now sources.protocol.now ≡ length spans.columns.offsets.now }
+    requires places { Each (λ p. p < length spans.columns.offsets.now) places.now }
+    requires room { at + length (flat_map (line_at options.options widths image.bytes.now image.len (lent spans.columns) sources.firmware.now sources.protocol.now) places.now) ≤ length out.old }
+    ensures { Writes (flat_map (line_at options.options widths image.entry.bytes.now image.entry.len (lent spans.entry.columns) sources.entry.firmware.now sources.entry.protocol.now) places.now) out.old at out.new result }
 {
     let mut next = at;
-    for k in 0..places.len() {
-        let p = places[k] as usize;
-        next = put_span(
-            out, next, image, options, widths, offsets[p], sizes[p], addrs[p], firmware, protocol,
-            files[p], starts[p], ends[p],
-        );
+    for &place in places {
+        let span = spans.span(place as usize);
+        next = put_span(out, next, image, options, widths, span, sources);
     }
     next
 }

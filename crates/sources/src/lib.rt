@@ -2,41 +2,40 @@
 // protocol's, which is file 1.
 #![tactic(auto)]
 
-ghost use Rattle.std.specs.Prelude.{◌≡◌, ◌≤◌, max, length};
+ghost use Rattle.std.specs.Prelude.{◌≡◌, ◌≤◌, length};
 ghost use Rattle.sources.specs.Sources.{source, excerpt_of, bad_text};
 
-// The excerpt of a text from `start` to `end`, a part of the lent text itself.
-pub fn excerpt<'a>(
-    firmware: &'a [u8],
-    protocol: &'a [u8],
-    file: u8,
-    start: usize,
-    end: usize,
-) -> &'a [u8]
-    requires { (start ≤ end) × (end ≤ length (source firmware.now protocol.now file)) }
-    ensures { result.now ≡ excerpt_of firmware.now protocol.now file start end }
-{
-    if file == 0 {
-        return &firmware[start..end];
-    }
-    &protocol[start..end]
+// The two source texts as they are lent.
+#[derive(Clone, Copy)]
+pub struct Sources<'a> {
+    pub firmware: &'a [u8],
+    pub protocol: &'a [u8],
 }
 
-// The length of the text of a file.
-pub fn source_length(firmware: &[u8], protocol: &[u8], file: u8) -> usize
-    ensures { result ≡ length (source firmware.now protocol.now file) }
-{
-    if file == 0 {
-        return firmware.len();
+impl<'a> Sources<'a> {
+    // The text of a file. It is given by its number, as document 01 says.
+    #[tactic(auto, unfolding(crate::specs::Sources::source))]
+    fn text(self, file: u8) -> &'a [u8]
+        ensures { result.now ≡ source self.entry.firmware.now self.entry.protocol.now file }
+    {
+        if file == 0 { self.firmware } else { self.protocol }
     }
-    protocol.len()
-}
 
-// The higher of two bytes.
-fn higher(a: u8, b: u8) -> u8
-    ensures { result ≡ max a b }
-{
-    if a < b { b } else { a }
+    // The excerpt of a text from `start` to `end`, a part of the lent text itself.
+    #[tactic(auto, unfolding(crate::specs::Sources::excerpt_of))]
+    pub fn excerpt(self, file: u8, start: usize, end: usize) -> &'a [u8]
+        requires { (start ≤ end) × (end ≤ length (source self.firmware.now self.protocol.now file)) }
+        ensures { result.now ≡ excerpt_of self.entry.firmware.now self.entry.protocol.now file start end }
+    {
+        &self.text(file)[start..end]
+    }
+
+    // The length of the text of a file.
+    pub fn source_length(self, file: u8) -> usize
+        ensures { result ≡ length (source self.entry.firmware.now self.entry.protocol.now file) }
+    {
+        self.text(file).len()
+    }
 }
 
 // Whether a text is too long or not ASCII, the cause of refusal 6. All bytes are looked at, without a
@@ -48,8 +47,8 @@ pub fn bad_text(text: &[u8]) -> bool
         return true;
     }
     let mut highest: u8 = 0;
-    for k in 0..text.len() {
-        highest = higher(highest, text[k]);
+    for &byte in text {
+        highest = highest.max(byte);
     }
     127 < highest
 }

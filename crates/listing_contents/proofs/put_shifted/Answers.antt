@@ -3,7 +3,6 @@
 use mathlib.Core.Path.{◌≡◌, refl}
 use Prim.Native.Nat.{◌+◌, ◌*◌}
 use native.Mathlib.Omega.{arith}
-use borrow.Author.Rules.{rules}
 use Rattle.output.proofs.Writes.{writes_nothing, writes_then, writes_length}
 use Rattle.rows.specs.Rows.{digits_per_byte, digit_bits}
 use Rattle.output.proofs.Order.{stride}
@@ -12,7 +11,7 @@ use Rattle.listing_contents.proofs.Groups.{groups_none, groups_length, shifted_n
 use Rattle.listing_contents.proofs.put_shifted.Goals as goal
 
 pub loop-k-init : goal.loop-k-init
-loop-k-init c = (search rules, rw (groups_none _ _ _ _ _) (writes_nothing _ _), refl)
+loop-k-init c = (rw (groups_none _ _ _ _ _) (writes_nothing _ _), refl)
 
 pub put_digits-next-requires : goal.put_digits-next-requires
 put_digits-next-requires c =
@@ -31,13 +30,12 @@ pub loop-k-preserved : goal.loop-k-preserved
 loop-k-preserved c =
     let l = c.loop-k in
     let a = c.args in (
-      search rules,
       rw (shifted_next a.kind a.image.bytes.now a.image.len a.first a.shift l.k, ← c.read_across-byte.ensures)
-          (writes_then l.invariant.1 (writes_then c.put_digits-next.ensures c.put-next.ensures)),
-      omega (arith, l.invariant.2, writes_length c.put_digits-next.ensures, writes_length c.put-next.ensures),
+          (writes_then l.invariant.0 (writes_then c.put_digits-next.ensures c.put-next.ensures)),
+      omega (arith, l.invariant.1, writes_length c.put_digits-next.ensures, writes_length c.put-next.ensures),
     )
 
 pub returns : goal.returns
 returns c =
     let done : c.loop-k.k ≡ c.args.count = omega arith in
-    rw done at c.loop-k.invariant.1
+    rw done at c.loop-k.invariant.0

@@ -6,22 +6,22 @@ use lib.ListN.{length}
 use borrow.Author.Count.{below_none, below_more}
 use Rattle.ordering.proofs.Lists.{first_at, first_all}
 use Rattle.listing_spans.specs.Faults.{span_fault}
-use borrow.Author.Rules.{rules}
 use Rattle.listing_spans.proofs.span_fault.Goals as goal
 
 pub loop-p-init : goal.loop-p-init
-loop-p-init c = (search rules, below_none _)
+loop-p-init c = below_none _
 
-pub returns-then-faulty : goal.returns-then-faulty
+pub returns-then-faulty-clause-place : goal.returns-then-faulty-clause-place
 unfolding span_fault
-returns-then-faulty c = λ addrs. sym (first_at _ (length c.args.offsets.now) c.loop-p.p (omega arith) c.loop-p.invariant.1 (sym c.faulty.ensures ∙ c.if-faulty.true))
+returns-then-faulty-clause-place c =
+    sym (first_at _ (length c.args.columns.offsets.now) c.loop-p.p (omega arith) c.loop-p.invariant (sym (rw c.location.ensures at c.faulty.ensures) ∙ c.if-faulty.true))
 
 pub loop-p-preserved : goal.loop-p-preserved
-loop-p-preserved c = (search rules, below_more _ c.loop-p.p c.loop-p.invariant.1 (sym c.faulty.ensures ∙ c.if-faulty.false))
+loop-p-preserved c = below_more _ c.loop-p.p c.loop-p.invariant (sym (rw c.location.ensures at c.faulty.ensures) ∙ c.if-faulty.false)
 
-pub returns : goal.returns
+pub returns-clause-place : goal.returns-clause-place
 unfolding span_fault
-returns c =
+returns-clause-place c =
     let l = c.loop-p in
-    let done : l.p ≡ length c.args.offsets.now = omega arith in
-    λ addrs. sym (first_all _ _ (rw (← done) l.invariant.1))
+    let done : l.p ≡ length c.args.columns.offsets.now = omega arith in
+    sym (first_all _ _ (rw (← done) l.invariant))
