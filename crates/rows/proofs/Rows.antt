@@ -3,7 +3,7 @@
 use mathlib.Core.Path.{◌≡◌, refl, sym, ap, ap₂, ◌∙◌}
 use mathlib.Core.List.{List, [], ◌∷◌, ◌++◌, append_assoc}
 use Prim.Native.Nat.{ℕ, zero, suc, ◌+◌, ◌-◌, ◌*◌, ◌/◌, ◌%◌, ◌<◌, ◌≤◌}
-use native.Mathlib.Nat.{zero-mul, suc-mul}
+use native.Mathlib.Nat.{zero-mul, suc-mul, mul-div_cancel}
 use native.Mathlib.Omega.{arith}
 use lib.ListN.{length, length-append, get_or, take, drop}
 use lib.Seq.{drop-drop, take-take}
@@ -100,25 +100,44 @@ four_text kind s e h l m n =
     (append_assoc (byte_digits kind (get_or s 0 0) ++ byte_digits kind (get_or s 1 0)) (byte_digits kind (get_or s 2 0)) (byte_digits kind (get_or s 3 0)))
 
 -- A chunk of a slice.
-pub chunk_at : (n k : ℕ) (xs : List ℕ) (i : ℕ) → i < k → get_or (first_chunks n k xs) i [] ≡ take n (drop (i * n) xs)
-chunk_at n zero xs i h = absurd (omega arith)
-chunk_at n (suc k) xs zero h = rw zero-mul
-chunk_at n (suc k) xs (suc i) h =
+chunk_at : (n k : ℕ) (xs : List ℕ) (i : ℕ) (d : List ℕ) → i < k → get_or (first_chunks n k xs) i d ≡ take n (drop (i * n) xs)
+chunk_at n zero xs i d h = absurd (omega arith)
+chunk_at n (suc k) xs zero d h = rw zero-mul
+chunk_at n (suc k) xs (suc i) d h =
     let place : n + i * n ≡ suc i * n = omega (arith, suc-mul i n) in
-    chunk_at n k (drop n xs) i (omega arith) ∙ ap (take n) (drop-drop (i * n) n xs) ∙ rw place
+    chunk_at n k (drop n xs) i d (omega arith) ∙ ap (take n) (drop-drop (i * n) n xs) ∙ rw place
 
 -- A row of a part of the bytes is a part of them.
-pub row_text : (kind : ByteDigits) (bytes : List ℕ) (len i m n k : ℕ) → (i + n * m) * 8 ≤ len → i + n * m ≤ length bytes → k < n
-    → slice_text kind (get_or (first_chunks m n (take (n * m) (drop i bytes))) k []) ≡ bytes_text kind bytes len (i + k * m) m
-row_text kind bytes len i m n k h l p =
+row_text : (kind : ByteDigits) (bytes : List ℕ) (len i m n k : ℕ) (d : List ℕ) → (i + n * m) * 8 ≤ len → i + n * m ≤ length bytes → k < n
+    → slice_text kind (get_or (first_chunks m n (take (n * m) (drop i bytes))) k d) ≡ bytes_text kind bytes len (i + k * m) m
+row_text kind bytes len i m n k d h l p =
     let room = stride k n m p in
     let all : k * m + (n * m - k * m) ≡ n * m = omega (arith, room) in
-    let chunk : get_or (first_chunks m n (take (n * m) (drop i bytes))) k [] ≡ take m (drop (i + k * m) bytes) =
-    chunk_at m n (take (n * m) (drop i bytes)) k p
+    let chunk : get_or (first_chunks m n (take (n * m) (drop i bytes))) k d ≡ take m (drop (i + k * m) bytes) =
+    chunk_at m n (take (n * m) (drop i bytes)) k d p
     ∙ ap (take m) (rw all at (drop-take (k * m) (n * m - k * m) (drop i bytes)))
     ∙ take-take m (n * m - k * m) (drop (k * m) (drop i bytes)) (omega (arith, room))
     ∙ ap (take m) (drop-drop (k * m) i bytes) in
     rw chunk (part_text kind bytes len (i + k * m) m (omega (arith, room, h)) (omega (arith, room, l)))
+
+-- The rows of a part: how many they are, and what each of them is.
+pub rows_count : (bytes : List ℕ) (i m n : ℕ) → 0 < m → i + n * m ≤ length bytes → length (take (i + n * m - i) (drop i bytes)) / m ≡ n
+rows_count bytes i m n s h =
+    let long : length (take (i + n * m - i) (drop i bytes)) ≡ n * m = omega (arith, length-take (i + n * m - i) (drop i bytes), length-drop i bytes) in
+    rw long (mul-div_cancel n s)
+
+pub row_is : (kind : ByteDigits) (bytes : List ℕ) (len i m n k : ℕ) (row : List ℕ) (rows : List (List ℕ)) → 0 < m → (i + n * m) * 8 ≤ len → i + n * m ≤ length bytes
+    → (let part = take (i + n * m - i) (drop i bytes) in rows ≡ first_chunks m (length part / m) part) → k < n → row ≡ get_or rows k row
+    → slice_text kind row ≡ bytes_text kind bytes len (i + k * m) m
+row_is kind bytes len i m n k row rows s h l chunks p is =
+    let size : i + n * m - i ≡ n * m = omega arith in
+    let all = rw (rows_count bytes i m n s l, size) at chunks in
+    ap (slice_text kind) (is ∙ ap (λ (chunks : List (List ℕ)). get_or chunks k row) all) ∙ row_text kind bytes len i m n k row h l p
+
+-- So a row's digits are as many as those of m bytes.
+pub row_digits : (kind : ByteDigits) (bytes : List ℕ) (len i m : ℕ) (row : List ℕ) → slice_text kind row ≡ bytes_text kind bytes len i m
+    → length row * digits_per_byte kind ≡ m * digits_per_byte kind
+row_digits kind bytes len i m row e = omega (arith, slice_length kind row, bytes_length kind bytes len i m, ap length e)
 
 pub rows_none : (kind : ByteDigits) (bytes : List ℕ) (len i m : ℕ) (tail : List ℕ) → rows_text kind bytes len i m tail 0 ≡ []
 unfolding rows_text

@@ -175,6 +175,7 @@ pub fn put_by_twos(
     ensures { Writes (rows_text Hex image.entry.bytes.now image.entry.len first 1 (tail ∷ []) (count * 2)) out.old at out.new result }
 {
     let mut next = at;
+    // By places: an array of two bytes would be another name for the bytes at them.
     for k in 0..count {
         let place = first + k * 2;
         next = hex_pair::put_parted(out, next, image.bytes[place], image.bytes[place + 1], tail);
