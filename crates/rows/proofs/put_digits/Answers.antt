@@ -5,12 +5,6 @@ use native.Mathlib.Omega.{arith}
 use Rattle.rows.specs.Rows.{digits_per_byte, byte_digits}
 use Rattle.rows.proofs.put_digits.Goals as goal
 
-pub put_bits-requires : goal.put_bits-requires
-put_bits-requires c = omega (arith, ap digits_per_byte c.in-Binary.is, c.requires)
-
-pub put_byte-requires : goal.put_byte-requires
-put_byte-requires c = omega (arith, ap digits_per_byte c.in-Hex.is, c.requires)
-
 pub returns-in-Binary : goal.returns-in-Binary
 unfolding byte_digits
 returns-in-Binary c = rw c.in-Binary.is c.put_bits.ensures
