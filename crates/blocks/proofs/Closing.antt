@@ -9,9 +9,14 @@ use lib.ListN.{length, get_or, take, drop}
 use lib.Seq.{sets, take_all}
 use Rattle.bitvec.specs.Size.{max_bits}
 use Rattle.ordering.specs.Order.{absent, in_order}
-use Rattle.ordering.proofs.Lists.{map_append, map_drop, map_length, part_left, part_there, sets_part}
-use Rattle.blocks.specs.Blocks.{Block, present, closed, running, blocks_of}
+use Rattle.ordering.proofs.Keys.{in_order_below}
+use Rattle.ordering.proofs.Lists.{each_get, map_append, map_drop, map_length, part_left, part_there, sets_part}
+use Rattle.blocks.specs.Blocks.{Block, present, closed, running, blocks_of, Stores}
 use Rattle.blocks.proofs.Running.{present_absent, present_next, present_none, closed_some, running_joins, running_closes, running_last, running_first}
+
+-- A place in the order is that of a span.
+pub place_below : (offsets places : List ℕ) (k : ℕ) → places ≡ in_order offsets → k < length places → get_or places k 0 < length offsets
+place_below offsets places k e h = each_get (λ p. p < length offsets) places k 0 (rw e (in_order_below offsets)) h
 
 -- The first `count` blocks are stored, a number of each; the others are those that come from the running block.
 pub record Closing (offsets sizes rest offsets₀ sizes₀ offsets₁ sizes₁ : List ℕ) (origin size count : ℕ) : Type 0 where
@@ -117,19 +122,25 @@ module _ {offsets sizes offsets₀ sizes₀ offsets₁ sizes₁ : List ℕ} wher
   closing_last_room {origin} {size} {count} c z =
       omega (arith, part_there (blocks_of offsets sizes) (closed origin size []) [] count (closing_left c), closed_some origin size z)
 
-  pub closing_count : {origin size count : ℕ} → Closing offsets sizes [] offsets₀ sizes₀ offsets₁ sizes₁ origin size count
+  closing_count : {origin size count : ℕ} → Closing offsets sizes [] offsets₀ sizes₀ offsets₁ sizes₁ origin size count
       → count + length (closed origin size []) ≡ length (blocks_of offsets sizes)
   closing_count {origin} {size} {count} c =
       omega (arith, part_there (blocks_of offsets sizes) (closed origin size []) [] count (closing_left c), c.within)
 
-  pub closing_offsets : {origin size count : ℕ} {offsets₂ : List ℕ} → Closing offsets sizes [] offsets₀ sizes₀ offsets₁ sizes₁ origin size count
+  closing_offsets : {origin size count : ℕ} {offsets₂ : List ℕ} → Closing offsets sizes [] offsets₀ sizes₀ offsets₁ sizes₁ origin size count
       → offsets₂ ≡ sets offsets₁ count (map (λ b. b.offset) (closed origin size [])) → offsets₂ ≡ sets offsets₀ 0 (map (λ b. b.offset) (blocks_of offsets sizes))
   closing_offsets {origin} {size} {count} {offsets₂} c s =
       stored_more offsets sizes (λ b. b.offset) origin size count [] offsets₀ offsets₁ offsets₂ c.within (closing_left c) c.stored_offsets s
       ∙ ap (sets offsets₀ 0) (take_all (count + length (closed origin size [])) (map (λ b. b.offset) (blocks_of offsets sizes)) (omega (arith, closing_count c, map_length (λ b. b.offset) (blocks_of offsets sizes))))
 
-  pub closing_sizes : {origin size count : ℕ} {sizes₂ : List ℕ} → Closing offsets sizes [] offsets₀ sizes₀ offsets₁ sizes₁ origin size count
+  closing_sizes : {origin size count : ℕ} {sizes₂ : List ℕ} → Closing offsets sizes [] offsets₀ sizes₀ offsets₁ sizes₁ origin size count
       → sizes₂ ≡ sets sizes₁ count (map (λ b. b.size) (closed origin size [])) → sizes₂ ≡ sets sizes₀ 0 (map (λ b. b.size) (blocks_of offsets sizes))
   closing_sizes {origin} {size} {count} {sizes₂} c s =
       stored_more offsets sizes (λ b. b.size) origin size count [] sizes₀ sizes₁ sizes₂ c.within (closing_left c) c.stored_sizes s
       ∙ ap (sets sizes₀ 0) (take_all (count + length (closed origin size [])) (map (λ b. b.size) (blocks_of offsets sizes)) (omega (arith, closing_count c, map_length (λ b. b.size) (blocks_of offsets sizes))))
+
+  -- All blocks are stored when the running one is closed.
+  pub closing_stores : {origin size count r : ℕ} {offsets₂ sizes₂ : List ℕ} → Closing offsets sizes [] offsets₀ sizes₀ offsets₁ sizes₁ origin size count
+      → Stores (closed origin size []) count offsets₁ offsets₂ sizes₁ sizes₂ r → Stores (blocks_of offsets sizes) 0 offsets₀ offsets₂ sizes₀ sizes₂ r
+  closing_stores c s =
+      record { counted = omega (arith, s.counted, closing_count c); offsets = closing_offsets c s.offsets; sizes = closing_sizes c s.sizes }

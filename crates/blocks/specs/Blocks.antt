@@ -1,11 +1,10 @@
 -- The blocks of a span list (document 01, module 7; the Rust's `get_blocks`).
-use Rattle.std.specs.Prelude.{◌≡◌, cond, ◌||◌, List, [], ◌∷◌, map, ℕ, ◌+◌, eqb, ltb, length, get_or}
+use Rattle.std.specs.Prelude.{◌≡◌, cond, ◌||◌, List, [], ◌∷◌, map, ℕ, ◌+◌, eqb, ltb, length, get_or, Result}
 use Rattle.std.proofs.lemmas.List.Edits.{sets}
-use Rattle.outcome.specs.Outcome.{Answer}
+use Rattle.outcome.specs.declared.Refusal.{Refusal}
+use Rattle.outcome.specs.Outcome.{Answer, answer_of}
 use Rattle.ordering.specs.Order.{absent, in_order}
 use Rattle.span_range.specs.Range.{spans_checked}
-use Rattle.blocks.specs.declared.Blocks.{Blocks}
-use Rattle.blocks.specs.declared.Blocks.TheVariants.{Found, SpanRange, NoRoom}
 
 -- Document 01's block: so many bits from an offset on. A span with an offset is one too.
 pub record Block : Type 0 where
@@ -53,15 +52,10 @@ blocks_found offsets sizes room room₂ =
     spans_checked refused offsets sizes
     (cond (ltb room n || ltb room₂ n) (refused 8 n) (found (blocks_of offsets sizes)))
 
--- The paper's number, 0 for blocks, and the value that comes with it: of what is to be given, and of each case of the enum.
+-- The paper's number, 0 for blocks, and the value that comes with it.
 abbrev pub finding_answer : Finding → Answer
 finding_answer (found blocks) = record { number = 0; value = length blocks }
 finding_answer (refused n v) = record { number = n; value = v }
-
-abbrev pub blocks_answer : Blocks → Answer
-blocks_answer (Found n) = record { number = 0; value = n }
-blocks_answer (SpanRange place) = record { number = 3; value = place }
-blocks_answer (NoRoom needed) = record { number = 8; value = needed }
 
 -- A lent slice behind the call: its front holds a number of each block and the rest stays; a refusal leaves it as it was.
 abbrev pub front : (Block → ℕ) → Finding → List ℕ → List ℕ
@@ -69,7 +63,13 @@ front number (found blocks) before = sets before 0 (map number blocks)
 front number (refused n v) before = before
 
 -- What `get_blocks` promises: its answer, and every number of both slices.
-pub record Finds (f : Finding) (r : Blocks) (offsets₀ offsets₁ sizes₀ sizes₁ : List ℕ) : Type 0 where
-  pub answered : blocks_answer r ≡ finding_answer f
+pub record Finds (f : Finding) (r : Result ℕ Refusal) (offsets₀ offsets₁ sizes₀ sizes₁ : List ℕ) : Type 0 where
+  pub answered : answer_of r ≡ finding_answer f
   pub offsets : offsets₁ ≡ front (λ b. b.offset) f offsets₀
   pub sizes : sizes₁ ≡ front (λ b. b.size) f sizes₀
+
+-- Blocks are stored in two slices behind the first `at`, and `count` blocks are there.
+pub record Stores (blocks : List Block) (at : ℕ) (offsets₀ offsets₁ sizes₀ sizes₁ : List ℕ) (count : ℕ) : Type 0 where
+  pub counted : count ≡ at + length blocks
+  pub offsets : offsets₁ ≡ sets offsets₀ at (map (λ b. b.offset) blocks)
+  pub sizes : sizes₁ ≡ sets sizes₀ at (map (λ b. b.size) blocks)

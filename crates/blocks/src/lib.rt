@@ -1,27 +1,28 @@
 // The blocks of a span list (document 01, module 7): the spans in order make blocks, which are closed
 // one after the other. Spans are lent as two slices of numbers, the offsets, with 4294967295 for an
-// absent one, and the sizes.
+// absent one, and the sizes. The blocks are given as two slices too, as document 01 lends them.
 #![tactic(auto)]
 
-ghost use Rattle.std.specs.Prelude.{◌≡◌, false, ◌≢◌, [], map, ◌+◌, ◌≤◌, ◌<◌, length};
+ghost use Rattle.std.specs.Prelude.{◌≡◌, false, ◌≢◌, [], ◌≤◌, ◌<◌, length};
 ghost use Rattle.std.proofs.lemmas.List.Edits.{sets};
 ghost use Rattle.ordering.specs.Order.{in_order};
 ghost use Rattle.adjoining.specs.Adjoin.{Adjoin};
 ghost use Rattle.span_range.specs.Range.{long_list, fault_at};
-ghost use Rattle.blocks.specs.Blocks.{closed, blocks_of, blocks_found, Finds};
+ghost use Rattle.blocks.specs.Blocks.{closed, blocks_of, blocks_found, Stores, Finds};
 
 use adjoining::all_adjoin;
-use ordering::ABSENT;
-use span_order::{order, order_few};
+use ordering::{ABSENT, SpanList};
+use outcome::Refusal;
+use span_order::{order, order_within};
 use span_range::{fault_at, long_list};
 
-// What `get_blocks` answers: how many blocks there are, or refusal 3 with its place, or refusal 8
-// with how many blocks there are.
+// A list in its range: at most 4,096 spans, none of them bad.
 #[derive(Clone, Copy)]
-pub enum Blocks {
-    Found(usize),
-    SpanRange(usize),
-    NoRoom(usize),
+struct GoodSpans<'a> {
+    list: SpanList<'a>,
+    ghost few: { length list.offsets.now ≤ 4096 },
+    ghost short: { long_list list.offsets.now list.sizes.now ≡ false },
+    ghost good: { fault_at list.offsets.now list.sizes.now ≡ length list.offsets.now },
 }
 
 // Closes a block: it is stored behind the others, unless its size is 0.
@@ -33,9 +34,7 @@ fn close(
     block_sizes: &mut [u32],
 ) -> usize
     requires { size ≢ 0 → (count < length block_offsets.old) × (count < length block_sizes.old) }
-    ensures counted { result ≡ count + length (closed origin size []) }
-    ensures offsets { block_offsets.new ≡ sets block_offsets.old count (map (λ b. b.offset) (closed origin size [])) }
-    ensures sizes { block_sizes.new ≡ sets block_sizes.old count (map (λ b. b.size) (closed origin size [])) }
+    ensures { Stores (closed origin size []) count block_offsets.old block_offsets.new block_sizes.old block_sizes.new result }
 {
     if size == 0 {
         return count;
@@ -49,270 +48,145 @@ fn close(
 // for each span. Before the first span a block of size 0 at offset 0 is running, which makes no
 // difference: a span at offset 0 joins it as it would open a block, and any other drops it. No block
 // ends where an absent offset would be, so that a span which joins need not be tested for it.
+#[tactic(auto, using(crate::proofs::Closing::place_below))]
 fn close_all(
-    offsets: &[u32],
-    sizes: &[u32],
+    spans: GoodSpans,
     places: &[u32],
     block_offsets: &mut [u32],
     block_sizes: &mut [u32],
 ) -> usize
-    requires lent { (length offsets.now ≡ length sizes.now) × (places.now ≡ in_order offsets.now) }
-    requires good { fault_at offsets.now sizes.now ≡ length offsets.now }
-    requires room { (length offsets.now ≤ length block_offsets.old) × (length offsets.now ≤ length block_sizes.old) }
-    ensures counted { result ≡ length (blocks_of offsets.now sizes.now) }
-    ensures offsets { block_offsets.new ≡ sets block_offsets.old 0 (map (λ b. b.offset) (blocks_of offsets.now sizes.now)) }
-    ensures sizes { block_sizes.new ≡ sets block_sizes.old 0 (map (λ b. b.size) (blocks_of offsets.now sizes.now)) }
+    requires ordered { places.now ≡ in_order spans.list.offsets.now }
+    requires room { (length spans.list.offsets.now ≤ length block_offsets.old) × (length spans.list.offsets.now ≤ length block_sizes.old) }
+    ensures { Stores (blocks_of spans.entry.list.offsets.now spans.entry.list.sizes.now) 0 block_offsets.old block_offsets.new block_sizes.old block_sizes.new result }
 {
+    let SpanList { offsets, sizes } = spans.list;
     let mut origin: u32 = 0;
     let mut size: u32 = 0;
     let mut count: usize = 0;
-    for k in 0..places.len() {
-        let place = places[k] as usize;
-        let offset = offsets[place];
+    for &place in places {
+        let offset = offsets[place as usize];
         if offset == origin + size {
-            size = size + sizes[place];
+            size += sizes[place as usize];
         } else if offset != ABSENT {
             count = close(origin, size, count, block_offsets, block_sizes);
             origin = offset;
-            size = sizes[place];
+            size = sizes[place as usize];
         }
     }
     close(origin, size, count, block_offsets, block_sizes)
 }
 
-// Room for a number of each span.
-fn words() -> [u32; 4096]
-    ensures { length result ≡ 4096 }
+// The places of at most N spans, in order. Few are not sorted in the room that many need.
+fn put_order<const N: usize>(offsets: &[u32], places: &mut [u32])
+    requires { (length offsets.now ≤ N) × (N ≤ 4096) × (length offsets.now ≤ length places.old) }
+    ensures { places.new ≡ sets places.old 0 (in_order offsets.now) }
 {
-    [0; 4096]
+    if N <= 64 {
+        return order_within::<N>(offsets, places);
+    }
+    order(offsets, places);
 }
 
-// Room for a number of each of a few spans.
-fn few_words() -> [u32; 64]
-    ensures { length result ≡ 64 }
-{
-    [0; 64]
-}
-
-// Orders few good spans and makes their blocks: less memory is set to zero.
-fn find_few(
-    offsets: &[u32],
-    sizes: &[u32],
+// Orders at most N good spans and makes their blocks: the smaller N is, the less memory is set to zero.
+fn find_ordered<const N: usize>(
+    spans: GoodSpans,
     block_offsets: &mut [u32],
     block_sizes: &mut [u32],
 ) -> usize
-    requires lent { (length offsets.now ≤ 64) × (length offsets.now ≡ length sizes.now) }
-    requires good { fault_at offsets.now sizes.now ≡ length offsets.now }
-    requires room { (length offsets.now ≤ length block_offsets.old) × (length offsets.now ≤ length block_sizes.old) }
-    ensures counted { result ≡ length (blocks_of offsets.now sizes.now) }
-    ensures offsets { block_offsets.new ≡ sets block_offsets.old 0 (map (λ b. b.offset) (blocks_of offsets.now sizes.now)) }
-    ensures sizes { block_sizes.new ≡ sets block_sizes.old 0 (map (λ b. b.size) (blocks_of offsets.now sizes.now)) }
+    requires few { (length spans.list.offsets.now ≤ N) × (N ≤ 4096) }
+    requires room { (length spans.list.offsets.now ≤ length block_offsets.old) × (length spans.list.offsets.now ≤ length block_sizes.old) }
+    ensures { Stores (blocks_of spans.entry.list.offsets.now spans.entry.list.sizes.now) 0 block_offsets.old block_offsets.new block_sizes.old block_sizes.new result }
 {
-    let n = offsets.len();
-    let mut places = few_words();
-    order_few(offsets, &mut places);
-    close_all(offsets, sizes, &places[..n], block_offsets, block_sizes)
-}
-
-// Orders good spans, up to the limit, and makes their blocks.
-fn find_many(
-    offsets: &[u32],
-    sizes: &[u32],
-    block_offsets: &mut [u32],
-    block_sizes: &mut [u32],
-) -> usize
-    requires lent { (length offsets.now ≤ 4096) × (length offsets.now ≡ length sizes.now) }
-    requires good { fault_at offsets.now sizes.now ≡ length offsets.now }
-    requires room { (length offsets.now ≤ length block_offsets.old) × (length offsets.now ≤ length block_sizes.old) }
-    ensures counted { result ≡ length (blocks_of offsets.now sizes.now) }
-    ensures offsets { block_offsets.new ≡ sets block_offsets.old 0 (map (λ b. b.offset) (blocks_of offsets.now sizes.now)) }
-    ensures sizes { block_sizes.new ≡ sets block_sizes.old 0 (map (λ b. b.size) (blocks_of offsets.now sizes.now)) }
-{
-    let n = offsets.len();
-    let mut places = words();
-    order(offsets, &mut places);
-    close_all(offsets, sizes, &places[..n], block_offsets, block_sizes)
+    let mut places = [0u32; N];
+    put_order::<N>(spans.list.offsets, &mut places);
+    let ordered = &places[..spans.list.offsets.len()];
+    close_all(spans, ordered, block_offsets, block_sizes)
 }
 
 // The block of good spans that adjoin.
-fn one_block(
-    offsets: &[u32],
-    sizes: &[u32],
-    block_offsets: &mut [u32],
-    block_sizes: &mut [u32],
-) -> usize
-    requires lent { (length offsets.now ≡ length sizes.now) × Adjoin offsets.now sizes.now }
-    requires good { fault_at offsets.now sizes.now ≡ length offsets.now }
-    requires room { (length offsets.now ≤ length block_offsets.old) × (length offsets.now ≤ length block_sizes.old) }
-    ensures counted { result ≡ length (blocks_of offsets.now sizes.now) }
-    ensures offsets { block_offsets.new ≡ sets block_offsets.old 0 (map (λ b. b.offset) (blocks_of offsets.now sizes.now)) }
-    ensures sizes { block_sizes.new ≡ sets block_sizes.old 0 (map (λ b. b.size) (blocks_of offsets.now sizes.now)) }
+fn one_block(spans: GoodSpans, block_offsets: &mut [u32], block_sizes: &mut [u32]) -> usize
+    requires adjoin { Adjoin spans.list.offsets.now spans.list.sizes.now }
+    requires room { (length spans.list.offsets.now ≤ length block_offsets.old) × (length spans.list.offsets.now ≤ length block_sizes.old) }
+    ensures { Stores (blocks_of spans.entry.list.offsets.now spans.entry.list.sizes.now) 0 block_offsets.old block_offsets.new block_sizes.old block_sizes.new result }
 {
+    let SpanList { offsets, sizes } = spans.list;
     let last = offsets.len() - 1;
     let origin = offsets[0];
     let size = offsets[last] + sizes[last] - origin;
     close(origin, size, 0, block_offsets, block_sizes)
 }
 
-// Orders good spans and makes their blocks.
-fn find_ordered(
-    offsets: &[u32],
-    sizes: &[u32],
-    block_offsets: &mut [u32],
-    block_sizes: &mut [u32],
-) -> usize
-    requires lent { (length offsets.now ≤ 4096) × (length offsets.now ≡ length sizes.now) }
-    requires good { fault_at offsets.now sizes.now ≡ length offsets.now }
-    requires room { (length offsets.now ≤ length block_offsets.old) × (length offsets.now ≤ length block_sizes.old) }
-    ensures counted { result ≡ length (blocks_of offsets.now sizes.now) }
-    ensures offsets { block_offsets.new ≡ sets block_offsets.old 0 (map (λ b. b.offset) (blocks_of offsets.now sizes.now)) }
-    ensures sizes { block_sizes.new ≡ sets block_sizes.old 0 (map (λ b. b.size) (blocks_of offsets.now sizes.now)) }
-{
-    if offsets.len() <= 64 {
-        return find_few(offsets, sizes, block_offsets, block_sizes);
-    }
-    find_many(offsets, sizes, block_offsets, block_sizes)
-}
-
 // Makes the blocks of good spans: those that adjoin need not be ordered.
-fn find_blocks(
-    offsets: &[u32],
-    sizes: &[u32],
-    block_offsets: &mut [u32],
-    block_sizes: &mut [u32],
-) -> usize
-    requires lent { (length offsets.now ≤ 4096) × (length offsets.now ≡ length sizes.now) }
-    requires good { fault_at offsets.now sizes.now ≡ length offsets.now }
-    requires room { (length offsets.now ≤ length block_offsets.old) × (length offsets.now ≤ length block_sizes.old) }
-    ensures counted { result ≡ length (blocks_of offsets.now sizes.now) }
-    ensures offsets { block_offsets.new ≡ sets block_offsets.old 0 (map (λ b. b.offset) (blocks_of offsets.now sizes.now)) }
-    ensures sizes { block_sizes.new ≡ sets block_sizes.old 0 (map (λ b. b.size) (blocks_of offsets.now sizes.now)) }
+fn find_blocks(spans: GoodSpans, block_offsets: &mut [u32], block_sizes: &mut [u32]) -> usize
+    requires room { (length spans.list.offsets.now ≤ length block_offsets.old) × (length spans.list.offsets.now ≤ length block_sizes.old) }
+    ensures { Stores (blocks_of spans.entry.list.offsets.now spans.entry.list.sizes.now) 0 block_offsets.old block_offsets.new block_sizes.old block_sizes.new result }
 {
-    if all_adjoin(offsets, sizes) {
-        return one_block(offsets, sizes, block_offsets, block_sizes);
+    if all_adjoin(spans.list) {
+        return one_block(spans, block_offsets, block_sizes);
     }
-    find_ordered(offsets, sizes, block_offsets, block_sizes)
+    if spans.list.offsets.len() <= 64 {
+        return find_ordered::<64>(spans, block_offsets, block_sizes);
+    }
+    find_ordered::<4096>(spans, block_offsets, block_sizes)
 }
 
-// Copies numbers to the front of others.
-fn put_words(from: &[u32], to: &mut [u32])
-    requires { length from.now ≤ length to.old }
-    ensures { to.new ≡ sets to.old 0 from.now }
-{
-    for k in 0..from.len() {
-        to[k] = from[k];
-    }
-}
-
-// The blocks of good spans are found in two slices with a place for each span, and copied if there is
-// room: a refusal leaves the lent slices as they were.
-fn copy_blocks(
-    offsets: &[u32],
-    sizes: &[u32],
-    found_offsets: &mut [u32],
-    found_sizes: &mut [u32],
+// The blocks of at most N good spans, copied to slices that may be too short for them: a refusal leaves
+// these as they were.
+fn copy_blocks<const N: usize>(
+    spans: GoodSpans,
     block_offsets: &mut [u32],
     block_sizes: &mut [u32],
-) -> Blocks
-    requires good { (long_list offsets.now sizes.now ≡ false) × (fault_at offsets.now sizes.now ≡ length offsets.now) }
-    requires room { (length offsets.now ≤ length found_offsets.old) × (length offsets.now ≤ length found_sizes.old) }
-    ensures { Finds (blocks_found offsets.now sizes.now (length block_offsets.old) (length block_sizes.old)) result block_offsets.old block_offsets.new block_sizes.old block_sizes.new }
+) -> Result<usize, Refusal>
+    requires { (length spans.list.offsets.now ≤ N) × (N ≤ 4096) }
+    ensures { Finds (blocks_found spans.entry.list.offsets.now spans.entry.list.sizes.now (length block_offsets.old) (length block_sizes.old)) result block_offsets.old block_offsets.new block_sizes.old block_sizes.new }
 {
-    let count = find_blocks(offsets, sizes, found_offsets, found_sizes);
-    if block_offsets.len() < count {
-        return Blocks::NoRoom(count);
+    let mut found_offsets = [0u32; N];
+    let mut found_sizes = [0u32; N];
+    let count = find_blocks(spans, &mut found_offsets, &mut found_sizes);
+    if block_offsets.len() < count || block_sizes.len() < count {
+        return Err(Refusal::NoRoom(count));
     }
-    if block_sizes.len() < count {
-        return Blocks::NoRoom(count);
-    }
-    put_words(&found_offsets[..count], block_offsets);
-    put_words(&found_sizes[..count], block_sizes);
-    Blocks::Found(count)
-}
-
-// The blocks of few good spans, in slices that may be too short for them.
-fn copy_few(
-    offsets: &[u32],
-    sizes: &[u32],
-    block_offsets: &mut [u32],
-    block_sizes: &mut [u32],
-) -> Blocks
-    requires few { length offsets.now ≤ 64 }
-    requires good { (long_list offsets.now sizes.now ≡ false) × (fault_at offsets.now sizes.now ≡ length offsets.now) }
-    ensures { Finds (blocks_found offsets.now sizes.now (length block_offsets.old) (length block_sizes.old)) result block_offsets.old block_offsets.new block_sizes.old block_sizes.new }
-{
-    let mut found_offsets = few_words();
-    let mut found_sizes = few_words();
-    copy_blocks(
-        offsets,
-        sizes,
-        &mut found_offsets,
-        &mut found_sizes,
-        block_offsets,
-        block_sizes,
-    )
-}
-
-// The blocks of good spans, up to the limit, in slices that may be too short for them.
-fn copy_many(
-    offsets: &[u32],
-    sizes: &[u32],
-    block_offsets: &mut [u32],
-    block_sizes: &mut [u32],
-) -> Blocks
-    requires good { (long_list offsets.now sizes.now ≡ false) × (fault_at offsets.now sizes.now ≡ length offsets.now) }
-    ensures { Finds (blocks_found offsets.now sizes.now (length block_offsets.old) (length block_sizes.old)) result block_offsets.old block_offsets.new block_sizes.old block_sizes.new }
-{
-    let mut found_offsets = words();
-    let mut found_sizes = words();
-    copy_blocks(
-        offsets,
-        sizes,
-        &mut found_offsets,
-        &mut found_sizes,
-        block_offsets,
-        block_sizes,
-    )
+    block_offsets[..count].copy_from_slice(&found_offsets[..count]);
+    block_sizes[..count].copy_from_slice(&found_sizes[..count]);
+    Ok(count)
 }
 
 // The blocks of good spans. Where each lent slice has a place for each span, there is room for the
 // blocks, which are made there: nothing is copied.
 fn good_blocks(
-    offsets: &[u32],
-    sizes: &[u32],
+    spans: GoodSpans,
     block_offsets: &mut [u32],
     block_sizes: &mut [u32],
-) -> Blocks
-    requires good { (long_list offsets.now sizes.now ≡ false) × (fault_at offsets.now sizes.now ≡ length offsets.now) }
-    ensures { Finds (blocks_found offsets.now sizes.now (length block_offsets.old) (length block_sizes.old)) result block_offsets.old block_offsets.new block_sizes.old block_sizes.new }
+) -> Result<usize, Refusal>
+    ensures { Finds (blocks_found spans.entry.list.offsets.now spans.entry.list.sizes.now (length block_offsets.old) (length block_sizes.old)) result block_offsets.old block_offsets.new block_sizes.old block_sizes.new }
 {
-    let n = offsets.len();
-    if n <= block_offsets.len() {
-        if n <= block_sizes.len() {
-            return Blocks::Found(find_blocks(offsets, sizes, block_offsets, block_sizes));
-        }
+    let n = spans.list.offsets.len();
+    if n <= block_offsets.len() && n <= block_sizes.len() {
+        return Ok(find_blocks(spans, block_offsets, block_sizes));
     }
     if n <= 64 {
-        return copy_few(offsets, sizes, block_offsets, block_sizes);
+        return copy_blocks::<64>(spans, block_offsets, block_sizes);
     }
-    copy_many(offsets, sizes, block_offsets, block_sizes)
+    copy_blocks::<4096>(spans, block_offsets, block_sizes)
 }
 
-// The blocks of the lent spans, their offsets and sizes at the fronts of two slices.
+// The blocks of the lent spans, their offsets and sizes at the fronts of two slices: how many there
+// are, or refusal 3 with its place, or refusal 8 with how many there are.
+#[tactic(auto, using(span_range::proofs::Good::short_list), unfolding(crate::specs::Blocks::blocks_found))]
 pub fn get_blocks(
     offsets: &[u32],
     sizes: &[u32],
     block_offsets: &mut [u32],
     block_sizes: &mut [u32],
-) -> Blocks
+) -> Result<usize, Refusal>
     ensures { Finds (blocks_found offsets.now sizes.now (length block_offsets.old) (length block_sizes.old)) result block_offsets.old block_offsets.new block_sizes.old block_sizes.new }
 {
     if long_list(offsets, sizes) {
-        return Blocks::SpanRange(4096);
+        return Err(Refusal::SpanRange(4096));
     }
-    let place = fault_at(offsets, sizes);
-    if place < offsets.len() {
-        return Blocks::SpanRange(place);
+    let list = SpanList { offsets, sizes };
+    if let Some(place) = fault_at(list) {
+        return Err(Refusal::SpanRange(place));
     }
-    good_blocks(offsets, sizes, block_offsets, block_sizes)
+    good_blocks(GoodSpans { list }, block_offsets, block_sizes)
 }

@@ -1,78 +1,60 @@
 -- `blocks::copy_blocks` meets its contract: the blocks are found, and copied where both slices have room.
 -- Assumes nothing.
-use mathlib.Core.Path.{◌≡◌, sym, ap, ◌∙◌}
-use mathlib.Core.List.{List, map}
-use Prim.Native.Nat.{ℕ, ◌≤◌}
-use native.Mathlib.Omega.{arith}
-use lib.ListN.{length, take}
-use lib.Seq.{sets, length-take-le}
-use borrow.Author.Tests.{lt-ltb, le-ltb}
+use Rattle.std.proofs.Common.{◌≡◌, ℕ, ◌≤◌, List, length, replicate, map, take, drop, ◌++◌, sym, ap, ◌∙◌, arith, lt-ltb, le-ltb}
+use Rattle.std.proofs.lemmas.List.{length-replicate}
+use Rattle.std.proofs.lemmas.List.Edits.{sets}
 use Rattle.blocks.specs.Blocks.{Block, blocks_of}
 use Rattle.ordering.proofs.Lists.{sets_front, map_length}
-use Rattle.span_range.proofs.Good.{short_list}
+use Rattle.ordering.proofs.Checked.{front_stored}
 use Rattle.blocks.proofs.Running.{blocks_few}
 use Rattle.blocks.proofs.Finding.{finds_blocks, finds_no_room}
 use Rattle.blocks.proofs.copy_blocks.Goals as goal
+use Rattle.blocks.proofs.copy_blocks.Goals.{then-block_offsets-count-via-then-block_offsets-count, then-block_offsets-count-via-else-block_offsets-count+then-block_sizes-count}
 
--- A slice whose front holds a number of each block, where it has a place for each span.
-there : (offsets sizes found₀ found₁ : List ℕ) (f : Block → ℕ) (n : ℕ) → length offsets ≤ length found₀ → length found₁ ≡ length found₀
-    → n ≡ length (blocks_of offsets sizes) → found₁ ≡ sets found₀ 0 (map f (blocks_of offsets sizes))
-    → (take n found₁ ≡ map f (blocks_of offsets sizes)) × (n ≤ length found₁) × (n ≡ length (take n found₁))
-there offsets sizes found₀ found₁ f n h l e s =
-    let few = blocks_few offsets sizes in
-    let all = map_length f (blocks_of offsets sizes) in (
-      ap (take n) s ∙ sets_front found₀ (map f (blocks_of offsets sizes)) n (omega (arith, few, all)) (e ∙ sym all),
-      omega (arith, few),
-      sym (length-take-le n found₁ (omega (arith, few))),
-    )
-
-pub find_blocks-count-requires : goal.find_blocks-count-requires
-find_blocks-count-requires c =
-    record { lent = short_list c.args.offsets.now c.args.sizes.now c.requires.good.0; good = c.requires.good.1; room = c.requires.room }
+-- The front of a slice in which a number of each block is stored is copied to the front of another.
+copied : (found₀ found₁ to₀ to₁ : List ℕ) (f : Block → ℕ) (blocks : List Block) (n : ℕ) → n ≡ length blocks → n ≤ length found₀ → n ≤ length to₀
+    → found₁ ≡ sets found₀ 0 (map f blocks) → to₁ ≡ take n found₁ → to₁ ++ drop n to₀ ≡ sets to₀ 0 (map f blocks)
+copied found₀ found₁ to₀ to₁ f blocks n e h k s t =
+    let all = map_length f blocks in
+    front_stored to₀ (map f blocks) to₁ n k (omega (arith, all, e))
+    (t ∙ ap (take n) s ∙ sets_front found₀ (map f blocks) n (omega (arith, all, e, h)) (e ∙ sym all))
 
 pub returns-then-block_offsets-count : goal.returns-then-block_offsets-count
-returns-then-block_offsets-count c =
-    finds_no_room c.args.offsets.now c.args.sizes.now c.args.block_offsets.now c.args.block_sizes.now c.requires.good.0 c.requires.good.1 c.find_blocks-count.result c.find_blocks-count.ensures.counted
-    (simp (lt-ltb _ _ c.if-block_offsets-count.true))
-
-pub returns-then-block_sizes-count : goal.returns-then-block_sizes-count
-returns-then-block_sizes-count c =
-    finds_no_room c.args.offsets.now c.args.sizes.now c.args.block_offsets.now c.args.block_sizes.now c.requires.good.0 c.requires.good.1 c.find_blocks-count.result c.find_blocks-count.ensures.counted
-    (simp (le-ltb _ _ c.if-block_offsets-count.false, lt-ltb _ _ c.if-block_sizes-count.true))
-
-pub slice_bounds-put_words-end : goal.slice_bounds-put_words-end
-slice_bounds-put_words-end c =
+returns-then-block_offsets-count g c =
     let a = c.args in
-    let found = c.find_blocks-count in
-    (there a.offsets.now a.sizes.now a.found_offsets.now found.new.block_offsets (λ b. b.offset) found.result c.requires.room.0 found.auto.block_offsets found.ensures.counted found.ensures.offsets).1
+    let n = c.find_blocks-count.result in
+    let no_room = finds_no_room a.spans.list.offsets.now a.spans.list.sizes.now a.block_offsets.now a.block_sizes.now a.spans.short a.spans.good n (omega (arith, c.find_blocks-count.ensures.counted)) in
+    elim c.then-block_offsets-count.branch [
+      | then-block_offsets-count-via-then-block_offsets-count w ↦ no_room (simp (lt-ltb _ _ w.if-block_offsets-count.true))
+      | then-block_offsets-count-via-else-block_offsets-count+then-block_sizes-count w ↦
+          no_room (simp (le-ltb _ _ w.if-block_offsets-count.false, lt-ltb _ _ w.if-block_sizes-count.true))
+    ]
 
-pub slice_bounds-put_words-end-2 : goal.slice_bounds-put_words-end-2
-slice_bounds-put_words-end-2 c =
-    let a = c.args in
-    let found = c.find_blocks-count in
-    (there a.offsets.now a.sizes.now a.found_offsets.now found.new.block_offsets (λ b. b.offset) found.result c.requires.room.0 found.auto.block_offsets found.ensures.counted found.ensures.offsets).2
+pub shared_whole_as_front-copy_from_slice : goal.shared_whole_as_front-copy_from_slice
+shared_whole_as_front-copy_from_slice g c =
+    (omega (arith, c.requires, c.find_blocks-count.ensures.counted, blocks_few c.args.spans.list.offsets.now c.args.spans.list.sizes.now), omega (arith, c.requires))
 
-pub slice_bounds-put_words-end-3 : goal.slice_bounds-put_words-end-3
-slice_bounds-put_words-end-3 c =
-    let a = c.args in
-    let found = c.find_blocks-count in
-    (there a.offsets.now a.sizes.now a.found_sizes.now found.new.block_sizes (λ b. b.size) found.result c.requires.room.1 found.auto.block_sizes found.ensures.counted found.ensures.sizes).1
-
-pub slice_bounds-put_words-end-4 : goal.slice_bounds-put_words-end-4
-slice_bounds-put_words-end-4 c =
-    let a = c.args in
-    let found = c.find_blocks-count in
-    (there a.offsets.now a.sizes.now a.found_sizes.now found.new.block_sizes (λ b. b.size) found.result c.requires.room.1 found.auto.block_sizes found.ensures.counted found.ensures.sizes).2
+pub shared_whole_as_front-copy_from_slice-2 : goal.shared_whole_as_front-copy_from_slice-2
+shared_whole_as_front-copy_from_slice-2 g c =
+    (omega (arith, c.requires, c.find_blocks-count.ensures.counted, blocks_few c.args.spans.list.offsets.now c.args.spans.list.sizes.now), omega (arith, c.requires))
 
 pub returns : goal.returns
-returns c =
+returns g c =
     let a = c.args in
     let found = c.find_blocks-count in
-    let n = found.ensures.counted in
-    finds_blocks a.offsets.now a.sizes.now a.block_offsets.now _ a.block_sizes.now _ c.requires.good.0 c.requires.good.1
-    (omega (arith, n, c.if-block_offsets-count.false))
-    (omega (arith, n, c.if-block_sizes-count.false))
-    found.result
+    let n = found.result in
+    let s = found.ensures in
+    let blocks = blocks_of a.spans.list.offsets.now a.spans.list.sizes.now in
+    let few = blocks_few a.spans.list.offsets.now a.spans.list.sizes.now in
+    let zeros = length-replicate {A = ℕ} g.row.N 0 in
+    let counted : n ≡ length blocks = omega (arith, s.counted) in
+    let within : n ≤ length (replicate {A = ℕ} g.row.N 0) = omega (arith, c.requires, few, counted, zeros) in
+    finds_blocks a.spans.list.offsets.now a.spans.list.sizes.now a.block_offsets.now _ a.block_sizes.now _ a.spans.short a.spans.good
+    (omega (arith, counted, c.if-block_offsets-count.false))
+    (omega (arith, counted, c.if-block_sizes-count.false))
     n
-    (c.put_words.ensures ∙ ap (sets a.block_offsets.now 0) (there a.offsets.now a.sizes.now a.found_offsets.now found.new.block_offsets (λ b. b.offset) found.result c.requires.room.0 found.auto.block_offsets n found.ensures.offsets).0)
-    (c.put_words-2.ensures ∙ ap (sets a.block_sizes.now 0) (there a.offsets.now a.sizes.now a.found_sizes.now found.new.block_sizes (λ b. b.size) found.result c.requires.room.1 found.auto.block_sizes n found.ensures.sizes).0)
+    record {
+      counted = s.counted;
+      offsets = copied _ _ a.block_offsets.now _ (λ b. b.offset) blocks n counted within c.if-block_offsets-count.false s.offsets c.copy_from_slice.ensures.after;
+      sizes = copied _ _ a.block_sizes.now _ (λ b. b.size) blocks n counted within c.if-block_sizes-count.false s.sizes c.copy_from_slice-2.ensures.after;
+    }
