@@ -2,15 +2,16 @@
 // separator list and the array of C.
 #![tactic(auto)]
 
-ghost use Rattle.std.specs.Prelude.{◌≡◌, [], ◌∷◌, ◌++◌, ◌+◌, ◌-◌, ◌*◌, ◌%◌, ◌≤◌, ◌<◌, ◌^◌, min, length};
+ghost use Rattle.std.specs.Prelude.{◌≡◌, ◌++◌, ◌+◌, ◌-◌, ◌*◌, ◌%◌, ◌≤◌, ◌<◌, ◌^◌, min, length};
 ghost use Rattle.bitvec.specs.Size.{ceil_div};
 ghost use Rattle.output.specs.Pieces.{leading, every};
 ghost use Rattle.output.specs.Writes.{Writes};
-ghost use Rattle.byte_list.specs.Bytes.{byte_in, byte_list};
+ghost use Rattle.byte_list.specs.Bytes.{radix_number, byte_in, byte_list};
 ghost use Rattle.byte_lines.specs.Items.{items_text};
 ghost use Rattle.byte_lines.specs.Start.{address_comment, line_start};
 
 use bitvec::Image;
+use byte_list::ByteRadix;
 use numbers::{Letters, Radix};
 
 // How a line of the list starts: with the newline alone, or with the newline and a comment that has
@@ -22,15 +23,18 @@ pub enum LineStart {
 }
 
 // Stores a byte in a radix.
-fn put_byte_in(out: &mut [u8], at: usize, radix: usize, byte: u8) -> usize
-    requires { at + length (byte_in radix byte) ≤ length out.old }
-    ensures { Writes (byte_in radix byte) out.old at out.new result }
+#[tactic(auto, using(byte_list::proofs::Lengths::decimal_length, byte_list::proofs::Lengths::hex_length, output::proofs::Writes::writes_length))]
+fn put_byte_in(out: &mut [u8], at: usize, radix: ByteRadix, byte: u8) -> usize
+    requires { at + length (byte_in (radix_number radix) byte) ≤ length out.old }
+    ensures { Writes (byte_in (radix_number radix) byte) out.old at out.new result }
 {
-    if radix == 10 {
-        return numbers::put_decimal(out, at, byte);
+    match radix {
+        ByteRadix::Decimal => numbers::put_decimal(out, at, byte),
+        ByteRadix::Hex => {
+            let next = output::put_all(out, at, b"0x");
+            numbers::put_byte(out, next, Letters::Lower, byte)
+        }
     }
-    let next = output::put_all(out, at, b"0x");
-    numbers::put_byte(out, next, Letters::Lower, byte)
 }
 
 // Stores the comment with the address `k`.
@@ -59,6 +63,7 @@ fn put_start(out: &mut [u8], at: usize, start: LineStart, k: usize) -> usize
 }
 
 // Stores the start of a line where `k` is a multiple of sixteen, and nothing where not.
+#[tactic(auto, using(output::proofs::Writes::writes_nothing), unfolding(output::specs::Pieces::every))]
 fn put_line_start(out: &mut [u8], at: usize, start: LineStart, k: usize) -> usize
     requires { at + length (every 16 k (line_start start k)) ≤ length out.old }
     ensures { Writes (every 16 k (line_start start k)) out.old at out.new result }
@@ -70,6 +75,7 @@ fn put_line_start(out: &mut [u8], at: usize, start: LineStart, k: usize) -> usiz
 }
 
 // Stores what stands before byte `k`.
+#[tactic(auto, using(output::proofs::Writes::writes_nothing), unfolding(output::specs::Pieces::leading))]
 fn put_between(out: &mut [u8], at: usize, separator: &[u8], start: LineStart, k: usize) -> usize
     requires { at + length (leading (λ i. separator.now ++ every 16 i (line_start start i)) k) ≤ length out.old }
     ensures { Writes (leading (λ i. separator.now ++ every 16 i (line_start start i)) k) out.old at out.new result }
@@ -81,85 +87,51 @@ fn put_between(out: &mut [u8], at: usize, separator: &[u8], start: LineStart, k:
     put_line_start(out, next, start, k)
 }
 
-// Stores `count` whole bytes of the image from byte `first` on, and two characters before each.
-fn put_twos(
-    out: &mut [u8],
-    at: usize,
-    image: Image,
-    radix: usize,
-    head: u8,
-    head2: u8,
-    first: usize,
-    count: usize,
-) -> usize
-    requires inside { ((first + count) * 8 ≤ image.len) × (first + count ≤ length image.bytes.now) }
-    requires room { at + length (items_text radix (head ∷ head2 ∷ []) image.bytes.now image.len first count) ≤ length out.old }
-    ensures { Writes (items_text radix (head ∷ head2 ∷ []) image.entry.bytes.now image.entry.len first count) out.old at out.new result }
-{
-    let mut next = at;
-    for j in 0..count {
-        let byte = image.bytes[first + j];
-        next = output::put(out, next, head);
-        next = output::put(out, next, head2);
-        next = put_byte_in(out, next, radix, byte);
-    }
-    next
-}
-
 // Stores `count` whole bytes of the image from byte `first` on, and the separator before each.
-fn put_any(
+#[inline(always)]
+fn put_separated(
     out: &mut [u8],
     at: usize,
     image: Image,
-    radix: usize,
+    radix: ByteRadix,
     separator: &[u8],
     first: usize,
     count: usize,
 ) -> usize
     requires inside { ((first + count) * 8 ≤ image.len) × (first + count ≤ length image.bytes.now) }
-    requires room { at + length (items_text radix separator.now image.bytes.now image.len first count) ≤ length out.old }
-    ensures { Writes (items_text radix separator.now image.entry.bytes.now image.entry.len first count) out.old at out.new result }
+    requires room { at + length (items_text (radix_number radix) separator.now image.bytes.now image.len first count) ≤ length out.old }
+    ensures { Writes (items_text (radix_number radix) separator.now image.entry.bytes.now image.entry.len first count) out.old at out.new result }
 {
     let mut next = at;
-    for j in 0..count {
-        let byte = image.bytes[first + j];
+    for &byte in &image.bytes[first..first + count] {
         next = output::put_text(out, next, separator);
         next = put_byte_in(out, next, radix, byte);
     }
     next
 }
 
-// The same, where there are any: a separator of two characters, as the array of C has, has a loop of its
-// own.
+// The same, where there are any. A separator of two characters, as the array of C has, is passed as
+// an array: a copy of the loop is then compiled for its length.
 fn put_items(
     out: &mut [u8],
     at: usize,
     image: Image,
-    radix: usize,
+    radix: ByteRadix,
     separator: &[u8],
     first: usize,
     count: usize,
 ) -> usize
     requires inside { 0 < count → ((first + count) * 8 ≤ image.len) × (first + count ≤ length image.bytes.now) }
-    requires room { at + length (items_text radix separator.now image.bytes.now image.len first count) ≤ length out.old }
-    ensures { Writes (items_text radix separator.now image.entry.bytes.now image.entry.len first count) out.old at out.new result }
+    requires room { at + length (items_text (radix_number radix) separator.now image.bytes.now image.len first count) ≤ length out.old }
+    ensures { Writes (items_text (radix_number radix) separator.now image.entry.bytes.now image.entry.len first count) out.old at out.new result }
 {
     if count == 0 {
         return at;
     }
-    if separator.len() == 2 {
-        return put_twos(
-            out,
-            at,
-            image,
-            radix,
-            separator[0],
-            separator[1],
-            first,
-            count,
-        );
+    match separator {
+        [head, tail] => put_separated(out, at, image, radix, &[*head, *tail], first, count),
+        _ => put_separated(out, at, image, radix, separator, first, count),
     }
-    put_any(out, at, image, radix, separator, first, count)
 }
 
 // How many of the first `whole` bytes stand behind byte `k` on its line.
@@ -167,25 +139,23 @@ fn line_rest(k: usize, whole: usize) -> usize
     requires { k < 2 ^ 32 }
     ensures { result ≡ min (15 - k % 16) (whole - (k + 1)) }
 {
-    if whole <= k {
-        return 0;
-    }
-    (15 - k % 16).min(whole - (k + 1))
+    (15 - k % 16).min(whole.saturating_sub(k + 1))
 }
 
 // Stores the list of `count` bytes. In a turn one byte is written with what stands before it, and then
-// the whole bytes behind it on its line.
+// the whole bytes behind it on its line, so that none of these is tested: a loop by lines would have
+// to write a byte that is not whole apart, and is no plainer.
 pub fn put_list(
     out: &mut [u8],
     at: usize,
     image: Image,
-    radix: usize,
+    radix: ByteRadix,
     separator: &[u8],
     start: LineStart,
     count: usize,
 ) -> usize
-    requires { (count < 2 ^ 32) × (count ≡ ceil_div image.len 8) × (at + length (byte_list radix separator.now (line_start start) image.bytes.now image.len) ≤ length out.old) }
-    ensures { Writes (byte_list radix separator.now (line_start start) image.entry.bytes.now image.entry.len) out.old at out.new result }
+    requires { (count < 2 ^ 32) × (count ≡ ceil_div image.len 8) × (at + length (byte_list (radix_number radix) separator.now (line_start start) image.bytes.now image.len) ≤ length out.old) }
+    ensures { Writes (byte_list (radix_number radix) separator.now (line_start start) image.entry.bytes.now image.entry.len) out.old at out.new result }
 {
     let whole = byte_list::whole_bytes(image, count);
     let mut next = at;

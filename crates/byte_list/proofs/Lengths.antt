@@ -74,10 +74,10 @@ blocks_digits n (suc k) bytes =
       blocks_digits n k (drop n bytes),
     ) refl
 
--- In any other it has four characters.
-pub hex_length : (radix b : ℕ) → (radix ≡ 10 → ⊥) → length (byte_in radix b) ≡ 4
+-- A byte in radix 16 has four characters.
+pub hex_length : (b : ℕ) → length (byte_in 16 b) ≡ 4
 unfolding byte_in byte_text
-hex_length radix b h = simp (ne_eqb radix 10 h)
+hex_length b = refl
 
 -- Any radix but 10 writes a byte as radix 16 does, so the two of the code's enum are all.
 pub hex_alike : (radix b : ℕ) → (radix ≡ 10 → ⊥) → byte_in radix b ≡ byte_in 16 b

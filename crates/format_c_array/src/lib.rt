@@ -6,26 +6,28 @@ ghost use Rattle.std.specs.Prelude.{◌≡◌, ◌≤◌, ◌<◌, ◌^◌, leng
 ghost use Rattle.bitvec.specs.Size.{ceil_div};
 ghost use Rattle.output.specs.Writes.{Writes};
 ghost use Rattle.outcome.specs.Outcome.{Exports};
+ghost use Rattle.byte_list.specs.Bytes.{radix_number};
 ghost use Rattle.format_c_array.specs.CArray.{address_width, c_array_text, c_array_outcome};
 
 use bitvec::Image;
 use byte_lines::LineStart;
+use byte_list::ByteRadix;
 use outcome::{Export, Refusal};
 
 // The length of the array of `count` bytes whose addresses have `width` digits.
 #[tactic(auto, using(crate::proofs::Lengths::width_few))]
-fn c_array_length(image: Image, radix: usize, count: usize, width: usize) -> usize
+fn c_array_length(image: Image, radix: ByteRadix, count: usize, width: usize) -> usize
     requires { (count < 2 ^ 32) × (count ≡ ceil_div image.len 8) × (width ≡ address_width image.len) }
-    ensures { result ≡ length (c_array_text radix image.entry.bytes.now image.entry.len) }
+    ensures { result ≡ length (c_array_text (radix_number radix) image.entry.bytes.now image.entry.len) }
 {
     byte_list::list_length(image, radix, count, 2, width + 11) + width + 44
 }
 
 // Stores the array of `count` bytes.
 #[tactic(auto, using(crate::proofs::Lengths::c_array_parts))]
-fn write_c_array(image: Image, radix: usize, count: usize, width: usize, out: &mut [u8]) -> usize
-    requires { (count < 2 ^ 32) × (count ≡ ceil_div image.len 8) × (width ≡ address_width image.len) × (length (c_array_text radix image.bytes.now image.len) ≤ length out.old) }
-    ensures { Writes (c_array_text radix image.entry.bytes.now image.entry.len) out.old 0 out.new result }
+fn write_c_array(image: Image, radix: ByteRadix, count: usize, width: usize, out: &mut [u8]) -> usize
+    requires { (count < 2 ^ 32) × (count ≡ ceil_div image.len 8) × (width ≡ address_width image.len) × (length (c_array_text (radix_number radix) image.bytes.now image.len) ≤ length out.old) }
+    ensures { Writes (c_array_text (radix_number radix) image.entry.bytes.now image.entry.len) out.old 0 out.new result }
 {
     let mut next = output::put_all(out, 0, b"const unsigned char data[] = {\n");
     next = byte_lines::put_comment(out, next, width, 0);
@@ -49,9 +51,9 @@ pub fn format_c_array(image: Image, radix: usize, out: &mut [u8]) -> Export
     if image.bad_size() {
         return Err(Refusal::ImageSize);
     }
-    if byte_list::bad_radix(radix) {
+    let Some(radix) = ByteRadix::new(radix) else {
         return Err(Refusal::OptionRange);
-    }
+    };
     if image.len == 0 {
         return Err(Refusal::EmptyImage);
     }

@@ -8,6 +8,7 @@ ghost use Rattle.format_separator.specs.Separator.{separator_outcome};
 
 use bitvec::Image;
 use byte_lines::LineStart;
+use byte_list::ByteRadix;
 use outcome::{Export, Refusal};
 
 // The bytes in radix 10 or 16, with a separator of at most 256 bytes and sixteen bytes a line.
@@ -18,9 +19,9 @@ pub fn format_separator(image: Image, radix: usize, separator: &[u8], out: &mut 
     if image.bad_size() {
         return Err(Refusal::ImageSize);
     }
-    if byte_list::bad_radix(radix) {
+    let Some(radix) = ByteRadix::new(radix) else {
         return Err(Refusal::OptionRange);
-    }
+    };
     if outcome::too_long(separator) {
         return Err(Refusal::OptionRange);
     }
