@@ -1,22 +1,23 @@
 -- Lines of whole bytes of the image: their digits are rows of bytes, and their characters are those of the image's bytes.
 -- Assumes nothing.
-use mathlib.Core.Path.{◌≡◌, sym, ap, ◌∙◌}
+use mathlib.Core.Path.{◌≡◌, refl, sym, ap, ◌∙◌}
 use mathlib.Core.List.{List, [], ◌∷◌, ◌++◌, append_assoc}
 use Prim.Native.Nat.{ℕ, zero, suc, ◌+◌, ◌-◌, ◌*◌, ◌/◌, ◌%◌, ◌<◌, ◌≤◌}
 use native.Mathlib.Omega.{arith}
 use lib.ListN.{length, get_or, length-append}
 use borrow.Author.Tests.{lt-ltb, eq-eqb, ne_eqb}
+use Rattle.std.proofs.lemmas.Grind.{same_number_lists}
 use Rattle.bitvec.specs.Bits.{byte_at}
 use Rattle.bitvec.proofs.Words.{byte_whole}
 use Rattle.output.specs.Ascii.{ascii}
 use Rattle.output.specs.Pieces.{pieces, leading, joined, every}
-use Rattle.output.proofs.Pieces.{pieces_equal}
+use Rattle.output.proofs.Pieces.{pieces_equal, pieces_length, pieces_at}
 use Rattle.output.proofs.Joined.{joined_next, joined_room}
 use Rattle.numbers.specs.Digits.{digits_of}
 use Rattle.rows.specs.declared.ByteDigits.{ByteDigits}
 use Rattle.rows.specs.declared.ByteDigits.TheVariants.{Binary, Hex}
 use Rattle.rows.specs.Rows.{digits_per_byte, digit_bits, byte_digits, bytes_text, rows_text}
-use Rattle.rows.proofs.Rows.{rows_none, singles_next}
+use Rattle.rows.proofs.Rows.{rows_none, rows_length, singles_next}
 use Rattle.digits.specs.Run.{digit_at, run}
 use Rattle.digits.proofs.Run.{bytes_run}
 use Rattle.dump_line.specs.Line.{dump_digit, printed, dump_char, dump_byte, digit_column}
@@ -84,37 +85,58 @@ group kind bytes len first j (suc (suc m)) e p l h =
 abbrev pub before : ByteDigits → List ℕ → ℕ → ℕ → ℕ → List ℕ
 before kind bytes len first j = digit_column bytes len (digit_bits kind) first j ++ leading gap j
 
--- A group of four, and the space behind it.
-pub group_next : (kind : ByteDigits) (bytes : List ℕ) (len first j : ℕ) → j % 4 ≡ 0 → (first + j + 4) * 8 ≤ len
-    → before kind bytes len first (j + 4) ≡ before kind bytes len first j ++ (rows_text kind bytes len (first + j) 1 (ascii " ") 4 ++ ascii " ")
-group_next kind bytes len first j e h =
-    rw (group kind bytes len first j 4 e (omega arith) (omega arith) h, gap_whole (j + 4) (omega arith) (omega arith)) (simp append_assoc)
+-- Group k of four, and the space behind it.
+pub group_next : (kind : ByteDigits) (bytes : List ℕ) (len first k : ℕ) → (first + k * 4 + 4) * 8 ≤ len
+    → before kind bytes len first ((k + 1) * 4) ≡ before kind bytes len first (k * 4) ++ (rows_text kind bytes len (first + k * 4) 1 (ascii " ") 4 ++ ascii " ")
+group_next kind bytes len first k h =
+    let step : (k + 1) * 4 ≡ k * 4 + 4 = omega arith in
+    rw (step, group kind bytes len first (k * 4) 4 (omega arith) (omega arith) (omega arith) h, gap_whole (k * 4 + 4) (omega arith) (omega arith)) (simp append_assoc)
 
--- It has room where a longer line has.
-pub group_room : (kind : ByteDigits) (bytes : List ℕ) (len first j n : ℕ) → j % 4 ≡ 0 → j + 4 < n → (first + j + 4) * 8 ≤ len
-    → length (before kind bytes len first j) + (length (rows_text kind bytes len (first + j) 1 (ascii " ") 4) + 1) ≤ length (digit_column bytes len (digit_bits kind) first n)
-group_room kind bytes len first j n e l h =
-    let item : ℕ → List ℕ = λ k. dump_byte bytes len (digit_bits kind) ((first + k) * 8) in
-    let row = rows_text kind bytes len (first + j) 1 (ascii " ") 4 in
-    omega (
-      arith,
-      joined_room gap item (j + 4) n l,
-      ap length (group_next kind bytes len first j e h),
-      length-append (joined gap item (j + 4)) (leading gap (j + 4)),
-      length-append (before kind bytes len first j) (row ++ ascii " "),
-      length-append row (ascii " "),
+-- It has room where a longer line has: in hexadecimal it takes 13 places.
+pub group_room : (bytes : List ℕ) (len first k n : ℕ) → k * 4 + 4 < n → (first + k * 4 + 4) * 8 ≤ len
+    → (length (rows_text Hex bytes len (first + k * 4) 1 (ascii " ") 4) ≡ 12)
+    × (length (before Hex bytes len first (k * 4)) + 13 ≤ length (digit_column bytes len 4 first n))
+group_room bytes len first k n l h =
+    let item : ℕ → List ℕ = λ k. dump_byte bytes len 4 ((first + k) * 8) in
+    let row = rows_text Hex bytes len (first + k * 4) 1 (ascii " ") 4 in
+    let step : (k + 1) * 4 ≡ k * 4 + 4 = omega arith in
+    let long = rows_length Hex bytes len (first + k * 4) 1 (ascii " ") 4 in (
+      omega (arith, long),
+      omega (
+        arith,
+        long,
+        joined_room gap item ((k + 1) * 4) n (omega arith),
+        ap length (group_next Hex bytes len first k h),
+        length-append (joined gap item ((k + 1) * 4)) (leading gap ((k + 1) * 4)),
+        length-append (before Hex bytes len first (k * 4)) (row ++ ascii " "),
+        length-append row (ascii " "),
+      ),
     )
 
--- The last group.
-pub group_last : (kind : ByteDigits) (bytes : List ℕ) (len first j n : ℕ) → j % 4 ≡ 0 → j < n → n ≤ j + 4 → (first + n) * 8 ≤ len
-    → digit_column bytes len (digit_bits kind) first n ≡ before kind bytes len first j ++ rows_text kind bytes len (first + j) 1 (ascii " ") (n - j)
-group_last kind bytes len first j n e p l h =
-    let all : j + (n - j) ≡ n = omega arith in
-    ap (digit_column bytes len (digit_bits kind) first) (sym all)
-    ∙ group kind bytes len first j (n - j) e (omega arith) (omega arith) (omega arith)
-    ∙ simp append_assoc
+-- The last group, behind k others.
+pub group_last : (bytes : List ℕ) (len first k n : ℕ) → k * 4 < n → n ≤ k * 4 + 4 → (first + n) * 8 ≤ len
+    → (digit_column bytes len 4 first n ≡ before Hex bytes len first (k * 4) ++ rows_text Hex bytes len (first + k * 4) 1 (ascii " ") (n - k * 4))
+    × (length (before Hex bytes len first (k * 4)) + (n - k * 4) * 3 ≡ length (digit_column bytes len 4 first n))
+group_last bytes len first k n p l h =
+    let all : k * 4 + (n - k * 4) ≡ n = omega arith in
+    let row = rows_text Hex bytes len (first + k * 4) 1 (ascii " ") (n - k * 4) in
+    let whole : digit_column bytes len 4 first n ≡ before Hex bytes len first (k * 4) ++ row =
+    ap (digit_column bytes len 4 first) (sym all)
+    ∙ group Hex bytes len first (k * 4) (n - k * 4) (omega arith) (omega arith) (omega arith) (omega arith)
+    ∙ simp append_assoc in (
+      whole,
+      omega (arith, ap length whole, length-append (before Hex bytes len first (k * 4)) row, rows_length Hex bytes len (first + k * 4) 1 (ascii " ") (n - k * 4)),
+    )
 
 -- A whole byte as a character.
 pub whole_char : (bytes : List ℕ) (len i : ℕ) → i * 8 + 8 ≤ len → get_or bytes i 0 < 256 → dump_char bytes len (i * 8) ≡ printed (get_or bytes i 0)
 unfolding dump_char
 whole_char bytes len i h l = simp (lt-ltb (i * 8) len (omega arith)) (ap printed (byte_whole bytes len i h l))
+
+-- A text of n characters that are known one by one.
+pub singles : (f : ℕ → ℕ) (s : List ℕ) (n : ℕ) → length s ≡ n → ((k : ℕ) → k < n → get_or s k 0 ≡ f k) → s ≡ pieces (λ k. f k ∷ []) n
+singles f s n e h =
+    let item : ℕ → List ℕ = λ k. f k ∷ [] in
+    let one : (k : ℕ) → k < n → get_or (pieces item n) (k * 1 + 0) 0 ≡ f k = λ k l. pieces_at item 1 n (λ i m. refl) k 0 l (omega arith) in
+    same_number_lists s (pieces item n) (e ∙ sym (pieces_length item 1 n (λ i m. refl) ∙ omega arith))
+    (λ k l. h k (omega arith) ∙ sym (let place : k * 1 + 0 ≡ k = omega arith in rw place at (one k (omega arith))))

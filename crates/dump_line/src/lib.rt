@@ -2,7 +2,7 @@
 // bytes as characters.
 #![tactic(auto)]
 
-ghost use Rattle.std.specs.Prelude.{◌≡◌, cond, List, ℕ, ◌+◌, ◌*◌, ◌/◌, ◌≤◌, ◌<◌, ◌^◌, length};
+ghost use Rattle.std.specs.Prelude.{◌≡◌, cond, true, List, ℕ, ◌+◌, ◌*◌, ◌/◌, ◌≤◌, ◌<◌, ◌^◌, length};
 ghost use Rattle.output.specs.Ascii.{ascii};
 ghost use Rattle.output.specs.Writes.{Writes};
 ghost use Rattle.numbers.specs.Digits.{digit_count};
@@ -65,39 +65,12 @@ fn put_dump_byte(out: &mut [u8], at: usize, image: Image, width: usize, from: Bi
     requires { (0 < width) × (width ≤ 4) × (from.0 + 8 < 2 ^ 64) × (at + (8 / width + 1) ≤ length out.old) }
     ensures { Writes (dump_byte image.entry.bytes.now image.entry.len width from.0) out.old at out.new result }
 {
-    let count = 8 / width;
-    let mut offset = from.0;
     let mut next = at;
-    let mut j = 0;
-    while j < count {
-        let c = dump_digit(image, width, BitOffset(offset));
+    for j in 0..8 / width {
+        let c = dump_digit(image, width, BitOffset(from.0 + j * width));
         next = output::put(out, next, c);
-        offset += width;
-        j += 1;
     }
     output::put(out, next, b' ')
-}
-
-// Stores the `count` bytes of a line from byte `first` on, in digits of `width` bits.
-fn put_digit_column(
-    out: &mut [u8],
-    at: usize,
-    image: Image,
-    width: usize,
-    first: usize,
-    count: usize,
-) -> usize
-    requires { (0 < width) × (width ≤ 4) × (first < 2 ^ 32) × (count ≤ 64) × (at + length (digit_column image.bytes.now image.len width first count) ≤ length out.old) }
-    ensures { Writes (digit_column image.entry.bytes.now image.entry.len width first count) out.old at out.new result }
-{
-    let mut next = at;
-    let mut j = 0;
-    while j < count {
-        next = output::put_between(out, next, 4, j, b' ');
-        next = put_dump_byte(out, next, image, width, BitOffset((first + j) * 8));
-        j += 1;
-    }
-    next
 }
 
 // Stores the `count` bytes of a line from byte `first` on, as characters.
@@ -106,11 +79,9 @@ fn put_char_column(out: &mut [u8], at: usize, image: Image, first: usize, count:
     ensures { Writes (char_column image.entry.bytes.now image.entry.len first count) out.old at out.new result }
 {
     let mut next = at;
-    let mut j = 0;
-    while j < count {
+    for j in 0..count {
         let c = dump_char(image, BitOffset((first + j) * 8));
         next = output::put(out, next, c);
-        j += 1;
     }
     next
 }
@@ -135,14 +106,13 @@ fn put_groups(out: &mut [u8], at: usize, image: Image, first: usize, count: usiz
     requires room { at + length (digit_column image.bytes.now image.len 4 first count) ≤ length out.old }
     ensures { Writes (digit_column image.entry.bytes.now image.entry.len 4 first count) out.old at out.new result }
 {
+    let full = (count - 1) / 4;
     let mut next = at;
-    let mut j = 0;
-    while 4 < count - j {
-        next = put_group(out, next, image, first + j, 4);
+    for k in 0..full {
+        next = put_group(out, next, image, first + k * 4, 4);
         next = output::put(out, next, b' ');
-        j += 4;
     }
-    put_group(out, next, image, first + j, count - j)
+    put_group(out, next, image, first + full * 4, count - full * 4)
 }
 
 // Stores the `count` bytes of a line from byte `first` on, which are whole bytes of the image, as
@@ -153,8 +123,7 @@ fn put_whole_chars(out: &mut [u8], at: usize, image: Image, first: usize, count:
     ensures { Writes (char_column image.entry.bytes.now image.entry.len first count) out.old at out.new result }
 {
     let mut next = at;
-    for j in 0..count {
-        let byte = image.bytes[first + j];
+    for &byte in &image.bytes[first..first + count] {
         next = output::put(out, next, printed(byte));
     }
     next
@@ -171,29 +140,46 @@ fn put_binary_byte(out: &mut [u8], at: usize, image: Image, first: usize) -> usi
     output::put(out, next, b' ')
 }
 
-// Stores the `count` bytes of a line from byte `first` on, which are whole bytes of the image, as binary
-// digits.
-fn put_binary_column(out: &mut [u8], at: usize, image: Image, first: usize, count: usize) -> usize
-    requires inside { ((first + count) * 8 ≤ image.len) × (first + count ≤ length image.bytes.now) }
-    requires room { at + length (digit_column image.bytes.now image.len 1 first count) ≤ length out.old }
-    ensures { Writes (digit_column image.entry.bytes.now image.entry.len 1 first count) out.old at out.new result }
+// Stores byte `index` in digits of `width` bits, and a space. `BINARY` promises a whole byte of the image
+// and digits of one bit: a constant, so that the loop of a column does not test it.
+fn put_byte<const BINARY: bool>(
+    out: &mut [u8],
+    at: usize,
+    image: Image,
+    width: usize,
+    index: usize,
+) -> usize
+    requires size { (0 < width) × (width ≤ 4) × (index < 2 ^ 33) }
+    requires whole { BINARY ≡ true → (width ≡ 1) × (index * 8 + 8 ≤ image.len) × (index < length image.bytes.now) }
+    requires room { at + (8 / width + 1) ≤ length out.old }
+    ensures { Writes (dump_byte image.entry.bytes.now image.entry.len width (index * 8)) out.old at out.new result }
 {
-    let mut next = at;
-    let mut j = 0;
-    while j < count {
-        next = output::put_between(out, next, 4, j, b' ');
-        next = put_binary_byte(out, next, image, first + j);
-        j += 1;
+    if BINARY {
+        return put_binary_byte(out, at, image, index);
     }
-    next
+    put_dump_byte(out, at, image, width, BitOffset(index * 8))
 }
 
-// The character of a whole byte of the image.
-fn whole_char(image: Image, first: usize) -> u8
-    requires { (first * 8 + 8 ≤ image.len) × (first < length image.bytes.now) }
-    ensures { result ≡ dump_char image.entry.bytes.now image.entry.len (first * 8) }
+// Stores the `count` bytes of a line from byte `first` on, in digits of `width` bits.
+fn put_digit_column<const BINARY: bool>(
+    out: &mut [u8],
+    at: usize,
+    image: Image,
+    width: usize,
+    first: usize,
+    count: usize,
+) -> usize
+    requires size { (0 < width) × (width ≤ 4) × (first < 2 ^ 32) × (count ≤ 64) }
+    requires whole { BINARY ≡ true → (width ≡ 1) × ((first + count) * 8 ≤ image.len) × (first + count ≤ length image.bytes.now) }
+    requires room { at + length (digit_column image.bytes.now image.len width first count) ≤ length out.old }
+    ensures { Writes (digit_column image.entry.bytes.now image.entry.len width first count) out.old at out.new result }
 {
-    printed(image.bytes[first])
+    let mut next = at;
+    for j in 0..count {
+        next = output::put_between(out, next, 4, j, b' ');
+        next = put_byte::<BINARY>(out, next, image, width, first + j);
+    }
+    next
 }
 
 // Stores the eight bytes of a line from byte `first` on, which are whole bytes of the image, as
@@ -203,15 +189,12 @@ fn put_eight_chars(out: &mut [u8], at: usize, image: Image, first: usize) -> usi
     requires room { at + 8 ≤ length out.old }
     ensures { Writes (char_column image.entry.bytes.now image.entry.len first 8) out.old at out.new result }
 {
-    let c0 = whole_char(image, first);
-    let c1 = whole_char(image, first + 1);
-    let c2 = whole_char(image, first + 2);
-    let c3 = whole_char(image, first + 3);
-    let c4 = whole_char(image, first + 4);
-    let c5 = whole_char(image, first + 5);
-    let c6 = whole_char(image, first + 6);
-    let c7 = whole_char(image, first + 7);
-    eight_chars::put_eight(out, at, [c0, c1, c2, c3, c4, c5, c6, c7])
+    let mut chars = [0; 8];
+    chars.copy_from_slice(&image.bytes[first..first + 8]);
+    for c in chars.iter_mut() {
+        *c = printed(*c);
+    }
+    eight_chars::put_eight(out, at, chars)
 }
 
 // Stores the `count` bytes of a line from byte `first` on, in digits of `width` bits.
@@ -229,13 +212,13 @@ fn put_digits(
 {
     if (first + count) * 8 <= image.len {
         if width == 1 {
-            return put_binary_column(out, at, image, first, count);
+            return put_digit_column::<true>(out, at, image, 1, first, count);
         }
         if width == 4 {
             return put_groups(out, at, image, first, count);
         }
     }
-    put_digit_column(out, at, image, width, first, count)
+    put_digit_column::<false>(out, at, image, width, first, count)
 }
 
 // Stores the `count` bytes of a line from byte `first` on, as characters. The eight bytes of a line of a

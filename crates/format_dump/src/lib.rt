@@ -35,19 +35,13 @@ impl DumpOptions {
     };
 
     // Whether the options are in their range; where not, the answer is refusal 2.
+    #[tactic(auto, unfolding(crate::specs::Dump::in_range))]
     pub fn in_range(options: DumpOptions) -> bool
         ensures { result ≡ in_range options }
     {
-        if options.byte_bits != 8 {
-            return false;
-        }
-        if outcome::outside(1, 64, options.bytes_per_line) {
-            return false;
-        }
-        if options.digit_bits == 1 {
-            return true;
-        }
-        options.digit_bits == 4
+        (options.digit_bits == 1 || options.digit_bits == 4)
+            && options.byte_bits == 8
+            && !outcome::outside(1, 64, options.bytes_per_line)
     }
 }
 
@@ -76,13 +70,9 @@ fn write_dump(
     requires room { length (dump_text image.bytes.now image.len width count) ≤ length out.old }
     ensures { Writes (dump_text image.entry.bytes.now image.entry.len width count) out.old 0 out.new result }
 {
-    let mut first = 0;
     let mut next = 0;
-    let mut k = 0;
-    while k < lines {
-        next = dump_line::put_line(out, next, image, width, count, address, first);
-        first += count;
-        k += 1;
+    for k in 0..lines {
+        next = dump_line::put_line(out, next, image, width, count, address, k * count);
     }
     next
 }

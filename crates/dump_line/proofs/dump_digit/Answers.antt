@@ -7,9 +7,9 @@ use Rattle.digits.specs.Run.{digit_at}
 use Rattle.dump_line.specs.Line.{dump_digit}
 use Rattle.dump_line.proofs.dump_digit.Goals as goal
 
-pub returns-then-bits-first : goal.returns-then-bits-first
+pub returns-then-image-first : goal.returns-then-image-first
 unfolding dump_digit
-returns-then-bits-first c = simp (le-ltb _ _ c.if-bits-first.true)
+returns-then-image-first c = simp (le-ltb _ _ c.if-image-first.true)
 
 pub digit_char-requires : goal.digit_char-requires
 digit_char-requires c =
@@ -19,4 +19,4 @@ digit_char-requires c =
 pub returns : goal.returns
 unfolding digit_at dump_digit
 returns c =
-    simp (lt-ltb _ _ c.if-bits-first.false) (rw (← c.read_bits-digit.ensures) c.digit_char.ensures)
+    simp (lt-ltb _ _ c.if-image-first.false) (rw (← c.read_bits-digit.ensures) c.digit_char.ensures)

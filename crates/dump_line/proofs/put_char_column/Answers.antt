@@ -7,12 +7,11 @@ use Rattle.output.proofs.Writes.{writes_nothing, writes_then}
 use Rattle.dump_line.proofs.put_char_column.Goals as goal
 
 pub loop-j-init : goal.loop-j-init
-loop-j-init c = (search rules, search rules, rw pieces_none (writes_nothing _ _), refl)
+loop-j-init c = (search rules, rw pieces_none (writes_nothing _ _), refl)
 
 pub loop-j-preserved : goal.loop-j-preserved
 loop-j-preserved c = (
   search rules,
-  search rules,
-  rw pieces_next (writes_then c.loop-j.invariant.2 (rw (← c.dump_char-c.ensures) c.put-next.ensures)),
+  rw pieces_next (writes_then c.loop-j.invariant.1 (rw (← c.dump_char-c.ensures) c.put-next.ensures)),
   search rules,
 )

@@ -1,38 +1,29 @@
 -- `dump_line::put_digit_column` meets its contract: after j turns j bytes are written, each with what stands before it.
 -- Assumes nothing.
 use mathlib.Core.Path.{refl}
-use Prim.Native.Nat.{◌+◌, ◌*◌, ◌≤◌}
+use Prim.Native.Nat.{◌+◌, ◌*◌}
 use native.Mathlib.Omega.{arith}
-use lib.ListN.{length}
 use borrow.Author.Rules.{rules}
-use Rattle.output.specs.Pieces.{leading}
 use Rattle.output.proofs.Joined.{joined_none, joined_next, joined_room}
 use Rattle.output.proofs.Writes.{writes_nothing, writes_then}
 use Rattle.dump_line.proofs.Lengths.{gap, line_byte, byte_length}
 use Rattle.dump_line.proofs.put_digit_column.Goals as goal
 
 pub loop-j-init : goal.loop-j-init
-loop-j-init c = (search rules, rw joined_none (writes_nothing _ _), refl)
+loop-j-init g c = (rw joined_none (writes_nothing _ _), refl)
 
 pub put_between-next-requires : goal.put_between-next-requires
-put_between-next-requires c =
-    let room : (let l = c.loop-j in let a = c.args in l.next + (length (leading gap l.j) + length (line_byte a.image.bytes.now a.image.len a.width a.first l.j)) ≤ length l.out) = let l = c.loop-j in
+put_between-next-requires g c =
     let a = c.args in
-    omega (arith, l.invariant.1.next, joined_room gap (line_byte a.image.bytes.now a.image.len a.width a.first) l.j a.count c.loop-j-test.true) in
-    (omega arith, omega (arith, room))
+    let room = joined_room gap (line_byte a.image.bytes.now a.image.len a.width a.first) c.loop-j.j a.count (search rules) in
+    (omega arith, omega (arith, room, c.loop-j.invariant.0.next, c.requires.room))
 
-pub put_dump_byte-next-requires : goal.put_dump_byte-next-requires
-put_dump_byte-next-requires c =
-    let room : (let l = c.loop-j in let a = c.args in l.next + (length (leading gap l.j) + length (line_byte a.image.bytes.now a.image.len a.width a.first l.j)) ≤ length l.out) = let l = c.loop-j in
+pub put_byte-next-requires-clause-room : goal.put_byte-next-requires-clause-room
+put_byte-next-requires-clause-room g c =
     let a = c.args in
-    omega (arith, l.invariant.1.next, joined_room gap (line_byte a.image.bytes.now a.image.len a.width a.first) l.j a.count c.loop-j-test.true) in
-    let a = c.args in (
-      c.requires.0,
-      c.requires.1,
-      omega arith,
-      omega (arith, room, c.put_between-next.ensures.next, byte_length a.image.bytes.now a.image.len a.width ((a.first + c.loop-j.j) * 8)),
-    )
+    let room = joined_room gap (line_byte a.image.bytes.now a.image.len a.width a.first) c.loop-j.j a.count (search rules) in
+    omega (arith, room, c.loop-j.invariant.0.next, c.requires.room, c.put_between-next.ensures.next, byte_length a.image.bytes.now a.image.len a.width ((a.first + c.loop-j.j) * 8))
 
 pub loop-j-preserved : goal.loop-j-preserved
-loop-j-preserved c =
-    (search rules, rw joined_next (writes_then c.loop-j.invariant.1 (writes_then c.put_between-next.ensures c.put_dump_byte-next.ensures)), search rules)
+loop-j-preserved g c =
+    (rw joined_next (writes_then c.loop-j.invariant.0 (writes_then c.put_between-next.ensures c.put_byte-next.ensures)), search rules)

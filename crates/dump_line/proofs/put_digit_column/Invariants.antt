@@ -1,5 +1,4 @@
 use mathlib.Core.Path.{◌≡◌}
-use Prim.Native.Nat.{◌-◌, ◌≤◌}
 use lib.ListN.{length}
 use Rattle.output.specs.Pieces.{joined}
 use Rattle.output.specs.Writes.{Writes}
@@ -7,7 +6,4 @@ use Rattle.dump_line.proofs.Lengths.{gap, line_byte}
 use Rattle.dump_line.proofs.put_digit_column.Given as goal
 
 abbrev pub invariant-loop-j : goal.invariant-loop-j
-invariant-loop-j l = (l.j ≤ l.count) × Writes (joined gap (line_byte l.image.bytes.now l.image.len l.width l.first) l.j) l.initial.out l.at l.out l.next × (length l.out ≡ length l.initial.out)
-
-abbrev pub decreases-loop-j : goal.decreases-loop-j
-decreases-loop-j l = l.count - l.j
+invariant-loop-j g l = Writes (joined gap (line_byte l.image.bytes.now l.image.len l.width l.first) l.j) l.initial.out l.at l.out l.next × (length l.out ≡ length l.initial.out)

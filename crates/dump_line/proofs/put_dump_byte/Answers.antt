@@ -1,32 +1,28 @@
--- `dump_line::put_dump_byte` meets its contract: after j turns j digits are written, and the next begins j widths from the start.
+-- `dump_line::put_dump_byte` meets its contract: after j turns j digits are written.
 -- Assumes nothing.
 use mathlib.Core.Path.{◌≡◌, refl}
 use Prim.Native.Nat.{◌/◌}
-use native.Mathlib.Nat.{add-zero, zero-mul, suc-mul}
+use native.Mathlib.Nat.{div-mul-le_self}
 use native.Mathlib.Omega.{arith}
 use borrow.Author.Rules.{rules}
+use Rattle.output.proofs.Order.{stride}
 use Rattle.output.proofs.Pieces.{pieces_none, pieces_next}
 use Rattle.output.proofs.Writes.{writes_nothing, writes_then}
 use Rattle.dump_line.specs.Line.{dump_byte}
 use Rattle.dump_line.proofs.put_dump_byte.Goals as goal
 
 pub loop-j-init : goal.loop-j-init
-loop-j-init c = (search rules, rw (zero-mul, add-zero), search rules, rw pieces_none (writes_nothing _ _), refl)
+loop-j-init c = (search rules, rw pieces_none (writes_nothing _ _), refl)
 
 pub loop-j-preserved : goal.loop-j-preserved
-loop-j-preserved c =
-    let a = c.args in (
-      search rules,
-      omega (arith, suc-mul c.loop-j.j a.width),
-      search rules,
-      rw pieces_next
-          (writes_then c.loop-j.invariant.3 (rw (← c.loop-j.invariant.1, ← c.dump_digit-c.ensures) c.put-next.ensures)),
-      search rules,
-    )
+loop-j-preserved c = (
+  search rules,
+  rw pieces_next (writes_then c.loop-j.invariant.1 (rw (← c.dump_digit-c.ensures) c.put-next.ensures)),
+  search rules,
+)
 
 pub returns : goal.returns
 unfolding dump_byte
 returns c =
-    let a = c.args in
-    let done : c.loop-j.j ≡ 8 / a.width = omega arith in
-    writes_then (rw done at c.loop-j.invariant.3) c.put.ensures
+    let done : c.loop-j.j ≡ 8 / c.args.width = omega arith in
+    writes_then (rw done at c.loop-j.invariant.1) c.put.ensures

@@ -1,7 +1,7 @@
 use mathlib.Core.Path.{◌≡◌}
-use mathlib.Core.List.{List, [], ◌∷◌}
-use Prim.Native.Nat.{ℕ, ◌+◌, ◌-◌, ◌*◌, ◌≤◌}
 use lib.ListN.{length}
+use mathlib.Core.List.{List, [], ◌∷◌}
+use Prim.Native.Nat.{ℕ, ◌+◌, ◌*◌}
 use Rattle.output.specs.Pieces.{pieces}
 use Rattle.output.specs.Writes.{Writes}
 use Rattle.dump_line.specs.Line.{dump_digit}
@@ -12,11 +12,4 @@ abbrev digit : List ℕ → ℕ → ℕ → ℕ → ℕ → List ℕ
 digit bytes len w i j = dump_digit bytes len w (i + j * w) ∷ []
 
 abbrev pub invariant-loop-j : goal.invariant-loop-j
-invariant-loop-j l = (l.j ≤ l.count)
-    × (l.offset ≡ l.initial.offset + l.j * l.width)
-    × (l.next ≡ l.at + l.j)
-    × Writes (pieces (digit l.image.bytes.now l.image.len l.width l.initial.offset) l.j) l.initial.out l.at l.out l.next
-    × (length l.out ≡ length l.initial.out)
-
-abbrev pub decreases-loop-j : goal.decreases-loop-j
-decreases-loop-j l = l.count - l.j
+invariant-loop-j l = (l.next ≡ l.at + l.j) × Writes (pieces (digit l.image.bytes.now l.image.len l.width l.from.0) l.j) l.initial.out l.at l.out l.next × (length l.out ≡ length l.initial.out)

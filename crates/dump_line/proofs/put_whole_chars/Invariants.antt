@@ -1,12 +1,9 @@
 use mathlib.Core.Path.{◌≡◌}
-use Prim.Native.Nat.{◌+◌, ◌-◌, ◌≤◌}
+use Prim.Native.Nat.{◌+◌}
 use lib.ListN.{length}
 use Rattle.output.specs.Writes.{Writes}
 use Rattle.dump_line.specs.Line.{char_column}
 use Rattle.dump_line.proofs.put_whole_chars.Given as goal
 
-abbrev pub invariant-loop-j : goal.invariant-loop-j
-invariant-loop-j l = (l.j ≤ l.count) × (l.next ≡ l.at + l.j) × Writes (char_column l.image.bytes.now l.image.len l.first l.j) l.initial.out l.at l.out l.next × (length l.out ≡ length l.initial.out)
-
-abbrev pub decreases-loop-j : goal.decreases-loop-j
-decreases-loop-j l = l.count - l.j
+abbrev pub invariant-loop-byte : goal.invariant-loop-byte
+invariant-loop-byte l = (l.next ≡ l.at + l.byte-index) × Writes (char_column l.image.bytes.now l.image.len l.first l.byte-index) l.initial.out l.at l.out l.next × (length l.out ≡ length l.initial.out)

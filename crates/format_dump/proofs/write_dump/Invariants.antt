@@ -1,6 +1,6 @@
 use mathlib.Core.Path.{◌≡◌}
 use mathlib.Core.List.{List}
-use Prim.Native.Nat.{ℕ, ◌-◌, ◌*◌, ◌≤◌}
+use Prim.Native.Nat.{ℕ, ◌*◌}
 use lib.ListN.{length}
 use Rattle.output.specs.Pieces.{pieces}
 use Rattle.output.specs.Writes.{Writes}
@@ -12,10 +12,4 @@ abbrev line : List ℕ → ℕ → ℕ → ℕ → ℕ → ℕ → List ℕ
 line bytes len w n address k = dump_line bytes len w n address (k * n)
 
 abbrev pub invariant-loop-k : goal.invariant-loop-k
-invariant-loop-k l = (l.k ≤ l.lines)
-    × (l.first ≡ l.k * l.count)
-    × Writes (pieces (line l.image.bytes.now l.image.len l.width l.count l.address) l.k) l.initial.out 0 l.out l.next
-    × (length l.out ≡ length l.initial.out)
-
-abbrev pub decreases-loop-k : goal.decreases-loop-k
-decreases-loop-k l = l.lines - l.k
+invariant-loop-k l = Writes (pieces (line l.image.bytes.now l.image.len l.width l.count l.address) l.k) l.initial.out 0 l.out l.next × (length l.out ≡ length l.initial.out)
