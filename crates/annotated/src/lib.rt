@@ -1,259 +1,126 @@
 // The annotated listing (document 01, module 9; the Rust's `format_annotated`): position, logical
-// address, contents and source excerpt of each span. Spans are lent as six slices of numbers. It
-// answers a text and its length, or refusal 1, 2, 3, 6, 7 or 8.
+// address, contents and source excerpt of each span. It answers a text and its length, or refusal 1, 2,
+// 3, 6, 7 or 8.
 #![tactic(auto)]
 
-ghost use Rattle.std.specs.Prelude.{◌≡◌, false, List, ℕ, ◌≤◌, length};
+ghost use Rattle.std.specs.Prelude.{◌≡◌, ◌≤◌, length};
 ghost use Rattle.outcome.specs.Outcome.{in_room, Exports};
 ghost use Rattle.ordering.specs.Order.{in_order};
-ghost use Rattle.listing.specs.Listing.{bad_annotated, spans_of, annotated_text};
+ghost use Rattle.listing.specs.Listing.{lent, annotated_text};
 ghost use Rattle.listing_spans.specs.Faults.{span_fault};
-ghost use Rattle.annotated.specs.Annotated.{unequal, listed_outcome, annotated_outcome};
+ghost use Rattle.annotated.specs.Annotated.{listed_outcome, annotated_outcome};
 
 use bitvec::Image;
-use listing::FormatAnnotatedOptions;
+use listing::{FormatAnnotatedOptions, ListedSpans, ListingOptions, SpanColumns};
 use outcome::{Export, Refusal};
+use sources::Sources;
 
-// Whether one of the slices but the sizes is not as long as the offsets.
-fn unequal(offsets: &[u32], addrs: &[u64], files: &[u8], starts: &[u64], ends: &[u64]) -> bool
-    ensures { (sizes : List ℕ) → result ≡ unequal (spans_of offsets.now sizes addrs.now files.now starts.now ends.now) }
-{
-    if offsets.len() != addrs.len() {
-        return true;
+// What a listing shows, where all its refusals but refusal 8 are ruled out.
+#[derive(Clone, Copy)]
+struct Listed<'a> {
+    image: Image<'a>,
+    options: ListingOptions,
+    spans: ListedSpans<'a>,
+    sources: Sources<'a>,
+    ghost few: { length spans.columns.offsets.now ≤ 4096 },
+    ghost short_firmware: { length sources.firmware.now ≤ 1048576 },
+    ghost short_protocol: { length sources.protocol.now ≤ 1048576 },
+    ghost sound: { span_fault options.options (lent spans.columns) sources.firmware.now sources.protocol.now ≡ length spans.columns.offsets.now },
+}
+
+impl<'a> Listed<'a> {
+    // The listing, where the places of the spans in order are lent, or refusal 8.
+    fn list_in_order(self, places: &[u32], out: &mut [u8]) -> Export
+        requires { places.now ≡ in_order self.spans.columns.offsets.now }
+        ensures { Exports (in_room (length out.old) (annotated_text self.entry.options.options self.entry.image.bytes.now self.entry.image.len (lent self.entry.spans.columns) self.entry.sources.firmware.now self.entry.sources.protocol.now)) result out.old out.new }
+    {
+        let options = self.options;
+        let spans = self.spans;
+        let widths = listing::column_widths(options, spans.list(), spans.columns.addrs);
+        let lines = listing_spans::lines_length(options, widths, places, spans, self.sources);
+        let needed = listing::heading_length(options, widths) + lines;
+        if out.len() < needed {
+            return Err(Refusal::NoRoom(needed));
+        }
+        let next = listing::put_heading(out, options, widths);
+        Ok(listing_spans::put_lines(
+            out, next, self.image, options, widths, places, spans, self.sources,
+        ))
     }
-    if offsets.len() != files.len() {
-        return true;
+
+    // The listing of at most N spans, or refusal 8.
+    fn list_within<const N: usize>(self, out: &mut [u8]) -> Export
+        requires { (length self.spans.columns.offsets.now ≤ N) × (N ≤ 4096) }
+        ensures { Exports (in_room (length out.old) (annotated_text self.entry.options.options self.entry.image.bytes.now self.entry.image.len (lent self.entry.spans.columns) self.entry.sources.firmware.now self.entry.sources.protocol.now)) result out.old out.new }
+    {
+        let offsets = self.spans.columns.offsets;
+        let mut places = [0u32; N];
+        span_order::order_within::<N>(offsets, &mut places);
+        self.list_in_order(&places[..offsets.len()], out)
     }
-    if offsets.len() != starts.len() {
-        return true;
+
+    // The listing, or refusal 8. For few spans less memory is set to zero.
+    fn list(self, out: &mut [u8]) -> Export
+        ensures { Exports (in_room (length out.old) (annotated_text self.entry.options.options self.entry.image.bytes.now self.entry.image.len (lent self.entry.spans.columns) self.entry.sources.firmware.now self.entry.sources.protocol.now)) result out.old out.new }
+    {
+        if self.spans.columns.offsets.len() <= 64 {
+            return self.list_within::<64>(out);
+        }
+        self.list_within::<4096>(out)
     }
-    offsets.len() != ends.len()
-}
-
-// The listing of spans that have no fault, whose places in order are lent, or refusal 8.
-fn list_in_order<'a>(
-    image: Image,
-    options: FormatAnnotatedOptions,
-    places: &[u32],
-    offsets: &[u32],
-    sizes: &[u32],
-    addrs: &[u64],
-    files: &[u8],
-    starts: &[u64],
-    ends: &[u64],
-    firmware: &'a [u8],
-    protocol: &'a [u8],
-    out: &mut [u8],
-) -> Export
-    requires options { bad_annotated options ≡ false }
-    requires lengths { (length sizes.now ≡ length offsets.now) × (length addrs.now ≡ length offsets.now) × (length files.now ≡ length offsets.now) × (length starts.now ≡ length offsets.now) × (length ends.now ≡ length offsets.now) }
-    requires sound { (length firmware.now ≤ 1048576) × (length protocol.now ≤ 1048576) × (span_fault options (spans_of offsets.now sizes.now addrs.now files.now starts.now ends.now) firmware.now protocol.now ≡ length offsets.now) }
-    requires places { (length offsets.now ≤ 4096) × (places.now ≡ in_order offsets.now) }
-    ensures { Exports (in_room (length out.old) (annotated_text options image.entry.bytes.now image.entry.len (spans_of offsets.now sizes.now addrs.now files.now starts.now ends.now) firmware.now protocol.now)) result out.old out.new }
-{
-    let widths = listing::column_widths(options, offsets, sizes, addrs);
-    let lines = listing_spans::lines_length(
-        options, widths, places, offsets, sizes, addrs, files, starts, ends, firmware, protocol,
-    );
-    let needed = listing::heading_length(options, widths) + lines;
-    if out.len() < needed {
-        return Err(Refusal::NoRoom(needed));
-    }
-    let next = listing::put_heading(out, options, widths);
-    Ok(listing_spans::put_lines(
-        out, next, image, options, widths, places, offsets, sizes, addrs, files, starts, ends,
-        firmware, protocol,
-    ))
-}
-
-// Room for the place of each span.
-fn words() -> [u32; 4096]
-    ensures { length result ≡ 4096 }
-{
-    [0; 4096]
-}
-
-// Room for the place of each of a few spans.
-fn few_words() -> [u32; 64]
-    ensures { length result ≡ 64 }
-{
-    [0; 64]
-}
-
-// The listing of few spans that have no fault, or refusal 8: less memory is set to zero.
-fn list_few<'a>(
-    image: Image,
-    options: FormatAnnotatedOptions,
-    offsets: &[u32],
-    sizes: &[u32],
-    addrs: &[u64],
-    files: &[u8],
-    starts: &[u64],
-    ends: &[u64],
-    firmware: &'a [u8],
-    protocol: &'a [u8],
-    out: &mut [u8],
-) -> Export
-    requires options { (bad_annotated options ≡ false) × (length offsets.now ≤ 64) }
-    requires lengths { (length sizes.now ≡ length offsets.now) × (length addrs.now ≡ length offsets.now) × (length files.now ≡ length offsets.now) × (length starts.now ≡ length offsets.now) × (length ends.now ≡ length offsets.now) }
-    requires sound { (length firmware.now ≤ 1048576) × (length protocol.now ≤ 1048576) × (span_fault options (spans_of offsets.now sizes.now addrs.now files.now starts.now ends.now) firmware.now protocol.now ≡ length offsets.now) }
-    ensures { Exports (in_room (length out.old) (annotated_text options image.entry.bytes.now image.entry.len (spans_of offsets.now sizes.now addrs.now files.now starts.now ends.now) firmware.now protocol.now)) result out.old out.new }
-{
-    let count = offsets.len();
-    let mut places = few_words();
-    span_order::order_few(offsets, &mut places);
-    list_in_order(
-        image,
-        options,
-        &places[..count],
-        offsets,
-        sizes,
-        addrs,
-        files,
-        starts,
-        ends,
-        firmware,
-        protocol,
-        out,
-    )
-}
-
-// The listing of spans that have no fault, up to the limit, or refusal 8.
-fn list_many<'a>(
-    image: Image,
-    options: FormatAnnotatedOptions,
-    offsets: &[u32],
-    sizes: &[u32],
-    addrs: &[u64],
-    files: &[u8],
-    starts: &[u64],
-    ends: &[u64],
-    firmware: &'a [u8],
-    protocol: &'a [u8],
-    out: &mut [u8],
-) -> Export
-    requires options { (bad_annotated options ≡ false) × (length offsets.now ≤ 4096) }
-    requires lengths { (length sizes.now ≡ length offsets.now) × (length addrs.now ≡ length offsets.now) × (length files.now ≡ length offsets.now) × (length starts.now ≡ length offsets.now) × (length ends.now ≡ length offsets.now) }
-    requires sound { (length firmware.now ≤ 1048576) × (length protocol.now ≤ 1048576) × (span_fault options (spans_of offsets.now sizes.now addrs.now files.now starts.now ends.now) firmware.now protocol.now ≡ length offsets.now) }
-    ensures { Exports (in_room (length out.old) (annotated_text options image.entry.bytes.now image.entry.len (spans_of offsets.now sizes.now addrs.now files.now starts.now ends.now) firmware.now protocol.now)) result out.old out.new }
-{
-    let count = offsets.len();
-    let mut places = words();
-    span_order::order(offsets, &mut places);
-    list_in_order(
-        image,
-        options,
-        &places[..count],
-        offsets,
-        sizes,
-        addrs,
-        files,
-        starts,
-        ends,
-        firmware,
-        protocol,
-        out,
-    )
-}
-
-// The listing of spans that have no fault, or refusal 8.
-fn list_spans<'a>(
-    image: Image,
-    options: FormatAnnotatedOptions,
-    offsets: &[u32],
-    sizes: &[u32],
-    addrs: &[u64],
-    files: &[u8],
-    starts: &[u64],
-    ends: &[u64],
-    firmware: &'a [u8],
-    protocol: &'a [u8],
-    out: &mut [u8],
-) -> Export
-    requires options { (bad_annotated options ≡ false) × (length offsets.now ≤ 4096) }
-    requires lengths { (length sizes.now ≡ length offsets.now) × (length addrs.now ≡ length offsets.now) × (length files.now ≡ length offsets.now) × (length starts.now ≡ length offsets.now) × (length ends.now ≡ length offsets.now) }
-    requires sound { (length firmware.now ≤ 1048576) × (length protocol.now ≤ 1048576) × (span_fault options (spans_of offsets.now sizes.now addrs.now files.now starts.now ends.now) firmware.now protocol.now ≡ length offsets.now) }
-    ensures { Exports (in_room (length out.old) (annotated_text options image.entry.bytes.now image.entry.len (spans_of offsets.now sizes.now addrs.now files.now starts.now ends.now) firmware.now protocol.now)) result out.old out.new }
-{
-    if offsets.len() <= 64 {
-        return list_few(
-            image, options, offsets, sizes, addrs, files, starts, ends, firmware, protocol, out,
-        );
-    }
-    list_many(
-        image, options, offsets, sizes, addrs, files, starts, ends, firmware, protocol, out,
-    )
 }
 
 // The listing of spans in their range, or refusal 6, 7 or 8.
-fn format_spans<'a>(
+fn format_spans(
     image: Image,
-    options: FormatAnnotatedOptions,
-    offsets: &[u32],
-    sizes: &[u32],
-    addrs: &[u64],
-    files: &[u8],
-    starts: &[u64],
-    ends: &[u64],
-    firmware: &'a [u8],
-    protocol: &'a [u8],
+    options: ListingOptions,
+    spans: ListedSpans,
+    sources: Sources,
     out: &mut [u8],
 ) -> Export
-    requires options { (bad_annotated options ≡ false) × (length offsets.now ≤ 4096) }
-    requires lengths { (length sizes.now ≡ length offsets.now) × (length addrs.now ≡ length offsets.now) × (length files.now ≡ length offsets.now) × (length starts.now ≡ length offsets.now) × (length ends.now ≡ length offsets.now) }
-    ensures { Exports (listed_outcome image.entry.bytes.now image.entry.len options (spans_of offsets.now sizes.now addrs.now files.now starts.now ends.now) firmware.now protocol.now (length out.old)) result out.old out.new }
+    requires { length spans.columns.offsets.now ≤ 4096 }
+    ensures { Exports (listed_outcome image.entry.bytes.now image.entry.len options.options (lent spans.entry.columns) sources.entry.firmware.now sources.entry.protocol.now (length out.old)) result out.old out.new }
 {
-    if sources::bad_text(firmware) {
+    if sources::bad_text(sources.firmware) || sources::bad_text(sources.protocol) {
         return Err(Refusal::SourceText);
     }
-    if sources::bad_text(protocol) {
-        return Err(Refusal::SourceText);
+    if let Some(place) = listing_spans::span_fault(options.options, spans.columns, sources) {
+        return Err(Refusal::SpanFault(place));
     }
-    let fault = listing_spans::span_fault(
-        options, offsets, sizes, files, starts, ends, firmware, protocol,
-    );
-    if fault < offsets.len() {
-        return Err(Refusal::SpanFault(fault));
-    }
-    list_spans(
-        image, options, offsets, sizes, addrs, files, starts, ends, firmware, protocol, out,
-    )
+    let listed = Listed {
+        image,
+        options,
+        spans,
+        sources,
+    };
+    listed.list(out)
 }
 
 // The listing of the lent spans. A span is an offset, with 4294967295 for an absent one, a size, a
-// logical address, a file, and a start and an end there, in six slices of one length.
-pub fn format_annotated<'a>(
+// logical address, a file, and a start and an end there, in six columns of one length.
+pub fn format_annotated(
     image: Image,
-    offsets: &[u32],
-    sizes: &[u32],
-    addrs: &[u64],
-    files: &[u8],
-    starts: &[u64],
-    ends: &[u64],
-    firmware: &'a [u8],
-    protocol: &'a [u8],
+    spans: SpanColumns,
+    sources: Sources,
     options: FormatAnnotatedOptions,
     out: &mut [u8],
 ) -> Export
-    ensures { Exports (annotated_outcome image.entry.bytes.now image.entry.len options (spans_of offsets.now sizes.now addrs.now files.now starts.now ends.now) firmware.now protocol.now (length out.old)) result out.old out.new }
+    ensures { Exports (annotated_outcome image.entry.bytes.now image.entry.len options (lent spans.entry) sources.entry.firmware.now sources.entry.protocol.now (length out.old)) result out.old out.new }
 {
     if image.bad_size() {
         return Err(Refusal::ImageSize);
     }
-    if listing::bad_annotated(options) {
+    let Some(options) = ListingOptions::new(options) else {
         return Err(Refusal::OptionRange);
-    }
-    if unequal(offsets, addrs, files, starts, ends) {
+    };
+    if span_range::long_list(spans.offsets, spans.sizes) {
         return Err(Refusal::SpanRange(4096));
     }
-    if span_range::long_list(offsets, sizes) {
+    let Some(spans) = ListedSpans::new(spans) else {
         return Err(Refusal::SpanRange(4096));
+    };
+    if let Some(place) = span_range::fault_at(spans.list()) {
+        return Err(Refusal::SpanRange(place));
     }
-    let bad = span_range::fault_at(offsets, sizes);
-    if bad < offsets.len() {
-        return Err(Refusal::SpanRange(bad));
-    }
-    format_spans(
-        image, options, offsets, sizes, addrs, files, starts, ends, firmware, protocol, out,
-    )
+    format_spans(image, options, spans, sources, out)
 }

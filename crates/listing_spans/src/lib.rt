@@ -2,7 +2,7 @@
 // that cannot be shown, and the lines of those that are shown, in the order of the places lent.
 #![tactic(auto)]
 
-ghost use Rattle.std.specs.Prelude.{◌≡◌, false, ℕ, ◌+◌, ◌≤◌, ◌<◌, ◌^◌, length, unwrap_or, IfSome};
+ghost use Rattle.std.specs.Prelude.{◌≡◌, false, ℕ, ◌+◌, ◌≤◌, ◌<◌, ◌^◌, length, MatchOption};
 ghost use mathlib.Core.List.{List, flat_map};
 ghost use Rattle.output.specs.Writes.{Writes};
 ghost use Rattle.ordering.specs.Lists.{Each};
@@ -59,8 +59,7 @@ pub fn span_fault(
     sources: Sources,
 ) -> Option<usize>
     requires { (length columns.sizes.now ≡ length columns.offsets.now) × (length columns.files.now ≡ length columns.offsets.now) × (length columns.starts.now ≡ length columns.offsets.now) × (length columns.ends.now ≡ length columns.offsets.now) }
-    ensures place { unwrap_or result (length columns.entry.offsets.now) ≡ span_fault options (lent columns.entry) sources.entry.firmware.now sources.entry.protocol.now }
-    ensures inside { IfSome result (λ p. p < length columns.entry.offsets.now) }
+    ensures { MatchOption result (span_fault options (lent columns.entry) sources.entry.firmware.now sources.entry.protocol.now ≡ length columns.entry.offsets.now) (λ p. (p < length columns.entry.offsets.now) × (p ≡ span_fault options (lent columns.entry) sources.entry.firmware.now sources.entry.protocol.now)) }
 {
     for (p, &offset) in columns.offsets.iter().enumerate() {
         if faulty(options, sources, offset, columns.sizes[p], columns.location(p)) {

@@ -11,17 +11,17 @@ use Rattle.listing_spans.proofs.span_fault.Goals as goal
 pub loop-p-init : goal.loop-p-init
 loop-p-init c = below_none _
 
-pub returns-then-faulty-clause-place : goal.returns-then-faulty-clause-place
+pub returns-then-faulty : goal.returns-then-faulty
 unfolding span_fault
-returns-then-faulty-clause-place c =
-    sym (first_at _ (length c.args.columns.offsets.now) c.loop-p.p (omega arith) c.loop-p.invariant (sym (rw c.location.ensures at c.faulty.ensures) ∙ c.if-faulty.true))
+returns-then-faulty c =
+    (omega arith, sym (first_at _ (length c.args.columns.offsets.now) c.loop-p.p (omega arith) c.loop-p.invariant (sym (rw c.location.ensures at c.faulty.ensures) ∙ c.if-faulty.true)))
 
 pub loop-p-preserved : goal.loop-p-preserved
 loop-p-preserved c = below_more _ c.loop-p.p c.loop-p.invariant (sym (rw c.location.ensures at c.faulty.ensures) ∙ c.if-faulty.false)
 
-pub returns-clause-place : goal.returns-clause-place
+pub returns : goal.returns
 unfolding span_fault
-returns-clause-place c =
+returns c =
     let l = c.loop-p in
     let done : l.p ≡ length c.args.columns.offsets.now = omega arith in
-    sym (first_all _ _ (rw (← done) l.invariant))
+    first_all _ _ (rw (← done) l.invariant)

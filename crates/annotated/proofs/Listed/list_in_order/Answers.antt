@@ -1,4 +1,4 @@
--- `annotated::list_in_order` meets its contract: the heading and the lines are measured, and then written.
+-- `annotated::Listed::list_in_order` meets its contract: the heading and the lines are measured, and then written.
 -- Assumes nothing.
 use mathlib.Core.Path.{◌≡◌, ap}
 use mathlib.Core.List.{List, ◌++◌, flat_map}
@@ -12,8 +12,8 @@ use Rattle.ordering.specs.Order.{in_order}
 use Rattle.ordering.proofs.Keys.{in_order_length, in_order_below}
 use Rattle.listing.specs.declared.FormatAnnotatedOptions.{FormatAnnotatedOptions}
 use Rattle.listing.specs.declared.Widths.{Widths}
-use Rattle.listing.specs.Listing.{Spans, spans_of, widths_of, heading, line_at, annotated_text}
-use Rattle.annotated.proofs.list_in_order.Goals as goal
+use Rattle.listing.specs.Listing.{Spans, lent, widths_of, heading, line_at, annotated_text}
+use Rattle.annotated.proofs.Listed.list_in_order.Goals as goal
 
 -- the text is the heading and the lines at the places in order
 made : (o : FormatAnnotatedOptions) (w : Widths) (bytes : List ℕ) (len : ℕ) (s : Spans) (firmware protocol places : List ℕ)
@@ -34,50 +34,48 @@ made_length o w bytes len s firmware protocol places e f =
 
 pub lines_length-lines-requires : goal.lines_length-lines-requires
 lines_length-lines-requires c =
-    let few : length c.args.places.now ≤ 4096 = omega (arith, ap length c.requires.places.1, in_order_length c.args.offsets.now, c.requires.places.0) in
-    let below : Each (λ p. p < length c.args.offsets.now) c.args.places.now = rw c.requires.places.1 (in_order_below c.args.offsets.now) in
+    let a = c.args.self in
+    let few : length c.args.places.now ≤ 4096 = omega (arith, ap length c.requires, in_order_length a.spans.columns.offsets.now, a.few) in
+    let below : Each (λ p. p < length a.spans.columns.offsets.now) c.args.places.now = rw c.requires (in_order_below a.spans.columns.offsets.now) in
     record {
-      narrow = (c.requires.options, c.column_widths-widths.ensures.small, c.column_widths-widths.ensures.measured);
-      lengths = c.requires.lengths;
-      sound = c.requires.sound;
+      narrow = (c.column_widths-widths.ensures.small, rw (c.list.ensures.0, c.list.ensures.1) at c.column_widths-widths.ensures.measured);
+      sound = (a.short_firmware, a.short_protocol, a.sound);
       places = (few, below);
     }
 
 pub returns-then-out-needed : goal.returns-then-out-needed
 returns-then-out-needed c =
-    let a = c.args in
+    let a = c.args.self in
     let w = c.column_widths-widths in
-    let spans = spans_of a.offsets.now a.sizes.now a.addrs.now a.files.now a.starts.now a.ends.now in
-    let whole = made_length a.options w.result a.image.bytes.now a.image.len spans a.firmware.now a.protocol.now a.places.now w.ensures.measured c.requires.places.1 in
+    let whole = made_length a.options.options w.result a.image.bytes.now a.image.len (lent a.spans.columns) a.sources.firmware.now a.sources.protocol.now c.args.places.now (rw (c.list.ensures.0, c.list.ensures.1) at w.ensures.measured) c.requires in
     let lines = c.lines_length-lines.ensures.0 a.image.bytes.now a.image.len in
-    exports_no_room (annotated_text a.options a.image.bytes.now a.image.len spans a.firmware.now a.protocol.now) _ (omega arith) c.if-out-needed.true
+    exports_no_room (annotated_text a.options.options a.image.bytes.now a.image.len (lent a.spans.columns) a.sources.firmware.now a.sources.protocol.now) _ (omega arith) c.if-out-needed.true
 
 pub put_heading-next-requires : goal.put_heading-next-requires
-put_heading-next-requires c = (c.requires.options, c.column_widths-widths.ensures.small, omega arith)
+put_heading-next-requires c = omega arith
 
 pub put_lines-requires : goal.put_lines-requires
 put_lines-requires c =
-    let a = c.args in
+    let a = c.args.self in
     let w = c.column_widths-widths in
-    let below : Each (λ p. p < length a.offsets.now) a.places.now = rw c.requires.places.1 (in_order_below a.offsets.now) in
+    let below : Each (λ p. p < length a.spans.columns.offsets.now) c.args.places.now = rw c.requires (in_order_below a.spans.columns.offsets.now) in
     let lines = c.lines_length-lines.ensures.0 a.image.bytes.now a.image.len in
     record {
-      options = (c.requires.options, w.ensures.measured);
-      lengths = c.requires.lengths;
-      sound = c.requires.sound.2;
+      widths = rw (c.list.ensures.0, c.list.ensures.1) at w.ensures.measured;
+      sound = a.sound;
       places = below;
       room = omega arith;
     }
 
 pub returns : goal.returns
 returns c =
-    let a = c.args in
+    let a = c.args.self in
     let w = c.column_widths-widths in
-    let spans = spans_of a.offsets.now a.sizes.now a.addrs.now a.files.now a.starts.now a.ends.now in
-    let whole = made_length a.options w.result a.image.bytes.now a.image.len spans a.firmware.now a.protocol.now a.places.now w.ensures.measured c.requires.places.1 in
+    let measured = rw (c.list.ensures.0, c.list.ensures.1) at w.ensures.measured in
+    let whole = made_length a.options.options w.result a.image.bytes.now a.image.len (lent a.spans.columns) a.sources.firmware.now a.sources.protocol.now c.args.places.now measured c.requires in
     let lines = c.lines_length-lines.ensures.0 a.image.bytes.now a.image.len in
-    let text = annotated_text a.options a.image.bytes.now a.image.len spans a.firmware.now a.protocol.now in
-    let enough : length text ≤ length a.out.now = omega arith in
+    let text = annotated_text a.options.options a.image.bytes.now a.image.len (lent a.spans.columns) a.sources.firmware.now a.sources.protocol.now in
+    let enough : length text ≤ length c.args.out.now = omega arith in
     exports_text {t = text} enough
-    (rw (made a.options w.result a.image.bytes.now a.image.len spans a.firmware.now a.protocol.now a.places.now w.ensures.measured c.requires.places.1)
+    (rw (made a.options.options w.result a.image.bytes.now a.image.len (lent a.spans.columns) a.sources.firmware.now a.sources.protocol.now c.args.places.now measured c.requires)
     (writes_then c.put_heading-next.ensures c.put_lines.ensures))
