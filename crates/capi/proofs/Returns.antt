@@ -5,11 +5,12 @@ use mathlib.Core.Bool.{Bool, true, false}
 use mathlib.Core.List.{List}
 use Prim.Native.Nat.{ℕ}
 use mir.Val.{bool_byte}
-use Rattle.outcome.specs.declared.Export.{Export}
+use Rattle.std.specs.Prelude.{Result}
+use Rattle.outcome.specs.declared.Refusal.{Refusal}
 use Rattle.outcome.specs.Outcome.{Outcome, Answer, answer_of, Exports}
 use Rattle.capi.specs.Returns.{Returns, flag}
 
-pub gives : {o : Outcome} {e : Export} {before after : List ℕ} {r v : ℕ}
+pub gives : {o : Outcome} {e : Result ℕ Refusal} {before after : List ℕ} {r v : ℕ}
     → Exports o e before after → (r ≡ (answer_of e).number) × (v ≡ (answer_of e).value) → Returns o r v before after
 gives p q =
     record {

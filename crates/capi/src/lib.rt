@@ -1,7 +1,7 @@
 // The exporters for C and Rust, under the names that include/riceshoal.h declares. A slice is a
 // pointer and a length. A function returns the number of the refusal, 0 for a text, and stores the
 // length of the text or the value that comes with the refusal.
-#![tactic(auto)]
+#![tactic(auto, using(crate::proofs::Returns::gives))]
 
 ghost use Rattle.std.specs.Prelude.{◌≡◌, length};
 ghost use Rattle.outcome.specs.Outcome.{answer_of};
@@ -19,17 +19,19 @@ ghost use Rattle.listing.specs.Listing.{spans_of};
 ghost use Rattle.annotated.specs.Annotated.{annotated_outcome};
 ghost use Rattle.capi.specs.Returns.{Returns, flag};
 
+use bitvec::Image;
 use format_dump::DumpOptions;
-use format_list::FormatListOptions;
-use listing::FormatAnnotatedOptions;
+use format_list::{FormatListOptions, ListStrings};
+use listing::{FormatAnnotatedOptions, SpanColumns};
 use outcome::Export;
+use sources::Sources;
 
 // Stores the value of an answer and returns its number.
 fn give(export: Export, value: &mut u64) -> u32
     ensures { (result ≡ (answer_of export).number) × (value.new ≡ (answer_of export).value) }
 {
-    *value = export.value() as u64;
-    export.number()
+    *value = outcome::value(export) as u64;
+    outcome::number(export)
 }
 
 #[unsafe(no_mangle)]
@@ -43,10 +45,20 @@ pub extern "C" fn riceshoal_format_binary(
     ensures exports { Returns (binary_outcome image.now bits (length out.old)) result value.new out.old out.new }
     ensures padding { padded.new ≡ flag (padded_in (binary_outcome image.now bits (length out.old)) bits) }
 {
-    let answer = format_plain::format_binary(image, bits, out);
-    *padded = answer.padded as u8;
-    let export = answer.export;
-    give(export, value)
+    let image = Image {
+        bytes: image,
+        len: bits,
+    };
+    match format_plain::format_binary(image, out) {
+        Ok(binary) => {
+            *padded = binary.padded as u8;
+            give(Ok(binary.length), value)
+        }
+        Err(refusal) => {
+            *padded = 0;
+            give(Err(refusal), value)
+        }
+    }
 }
 
 #[unsafe(no_mangle)]
@@ -59,10 +71,11 @@ pub extern "C" fn riceshoal_format_str(
 ) -> u32
     ensures { Returns (str_outcome image.now bits bits_per_digit (length out.old)) result value.new out.old out.new }
 {
-    give(
-        format_plain::format_str(image, bits, bits_per_digit, out),
-        value,
-    )
+    let image = Image {
+        bytes: image,
+        len: bits,
+    };
+    give(format_plain::format_str(image, bits_per_digit, out), value)
 }
 
 #[unsafe(no_mangle)]
@@ -75,10 +88,11 @@ pub extern "C" fn riceshoal_format_readmemb(
 ) -> u32
     ensures { Returns (readmemb_outcome image.now bits width (length out.old)) result value.new out.old out.new }
 {
-    give(
-        format_readmem::format_readmemb(image, bits, width, out),
-        value,
-    )
+    let image = Image {
+        bytes: image,
+        len: bits,
+    };
+    give(format_readmem::format_readmemb(image, width, out), value)
 }
 
 #[unsafe(no_mangle)]
@@ -91,10 +105,11 @@ pub extern "C" fn riceshoal_format_readmemh(
 ) -> u32
     ensures { Returns (readmemh_outcome image.now bits width (length out.old)) result value.new out.old out.new }
 {
-    give(
-        format_readmem::format_readmemh(image, bits, width, out),
-        value,
-    )
+    let image = Image {
+        bytes: image,
+        len: bits,
+    };
+    give(format_readmem::format_readmemh(image, width, out), value)
 }
 
 #[unsafe(no_mangle)]
@@ -108,8 +123,12 @@ pub extern "C" fn riceshoal_format_separator(
 ) -> u32
     ensures { Returns (separator_outcome image.now bits radix separator.now (length out.old)) result value.new out.old out.new }
 {
+    let image = Image {
+        bytes: image,
+        len: bits,
+    };
     give(
-        format_separator::format_separator(image, bits, radix, separator, out),
+        format_separator::format_separator(image, radix, separator, out),
         value,
     )
 }
@@ -124,10 +143,11 @@ pub extern "C" fn riceshoal_format_c_array(
 ) -> u32
     ensures { Returns (c_array_outcome image.now bits radix (length out.old)) result value.new out.old out.new }
 {
-    give(
-        format_c_array::format_c_array(image, bits, radix, out),
-        value,
-    )
+    let image = Image {
+        bytes: image,
+        len: bits,
+    };
+    give(format_c_array::format_c_array(image, radix, out), value)
 }
 
 #[unsafe(no_mangle)]
@@ -151,8 +171,18 @@ pub extern "C" fn riceshoal_format_list(
         digits_per_group,
         groups_per_group2,
     };
+    let strings = ListStrings {
+        before,
+        after,
+        between,
+        between2,
+    };
+    let image = Image {
+        bytes: image,
+        len: bits,
+    };
     give(
-        format_list::format_list(image, bits, options, before, after, between, between2, out),
+        format_list::format_list(image, options, strings, out),
         value,
     )
 }
@@ -166,7 +196,11 @@ pub extern "C" fn riceshoal_format_mif(
 ) -> u32
     ensures { Returns (mif_outcome image.now bits (length out.old)) result value.new out.old out.new }
 {
-    give(format_mif::format_mif(image, bits, out), value)
+    let image = Image {
+        bytes: image,
+        len: bits,
+    };
+    give(format_mif::format_mif(image, out), value)
 }
 
 #[unsafe(no_mangle)]
@@ -179,8 +213,12 @@ pub extern "C" fn riceshoal_format_logisim(
 ) -> u32
     ensures { Returns (logisim_outcome image.now bits bits_per_chunk (length out.old)) result value.new out.old out.new }
 {
+    let image = Image {
+        bytes: image,
+        len: bits,
+    };
     give(
-        format_logisim::format_logisim(image, bits, bits_per_chunk, out),
+        format_logisim::format_logisim(image, bits_per_chunk, out),
         value,
     )
 }
@@ -202,7 +240,11 @@ pub extern "C" fn riceshoal_format_dump(
         byte_bits,
         bytes_per_line,
     };
-    give(format_dump::format_dump(image, bits, options, out), value)
+    let image = Image {
+        bytes: image,
+        len: bits,
+    };
+    give(format_dump::format_dump(image, options, out), value)
 }
 
 #[unsafe(no_mangle)]
@@ -217,14 +259,18 @@ pub extern "C" fn riceshoal_format_intelhex(
 ) -> u32
     ensures { Returns (hex_outcome image.now bits offsets.now sizes.now address_unit (length out.old)) result value.new out.old out.new }
 {
+    let image = Image {
+        bytes: image,
+        len: bits,
+    };
     give(
-        intelhex::format_intelhex(image, bits, offsets, sizes, address_unit, out),
+        intelhex::format_intelhex(image, offsets, sizes, address_unit, out),
         value,
     )
 }
 
 #[unsafe(no_mangle)]
-pub extern "C" fn riceshoal_format_annotated<'a>(
+pub extern "C" fn riceshoal_format_annotated(
     image: &[u8],
     bits: usize,
     offsets: &[u32],
@@ -233,8 +279,8 @@ pub extern "C" fn riceshoal_format_annotated<'a>(
     files: &[u8],
     starts: &[u64],
     ends: &[u64],
-    firmware: &'a [u8],
-    protocol: &'a [u8],
+    firmware: &[u8],
+    protocol: &[u8],
     base: usize,
     addr_base: usize,
     digits_per_group: usize,
@@ -250,8 +296,21 @@ pub extern "C" fn riceshoal_format_annotated<'a>(
         digits_per_group,
         display_labels,
     };
-    let export = annotated::format_annotated(
-        image, bits, offsets, sizes, addrs, files, starts, ends, firmware, protocol, options, out,
-    );
-    give(export, value)
+    let spans = SpanColumns {
+        offsets,
+        sizes,
+        addrs,
+        files,
+        starts,
+        ends,
+    };
+    let sources = Sources { firmware, protocol };
+    let image = Image {
+        bytes: image,
+        len: bits,
+    };
+    give(
+        annotated::format_annotated(image, spans, sources, options, out),
+        value,
+    )
 }

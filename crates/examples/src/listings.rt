@@ -1,11 +1,11 @@
 // The annotated listing: what it shows, for an image of the bytes 12 34, of two spans where no other
 // number is named. The firmware's text is `nop`, the protocol's `ack`.
-ghost use Rattle.std.specs.Prelude.{◌≤◌, length, IfOk};
-
-use crate::tell::{OLD, gave, tell};
-use listing::FormatAnnotatedOptions;
+use crate::tell::{OLD, Tally, gave};
+use bitvec::Image;
+use listing::{FormatAnnotatedOptions, SpanColumns};
 use ordering::ABSENT;
-use outcome::{Export, Refusal};
+use outcome::Export;
+use sources::Sources;
 use std::io;
 
 // A span: its bits, its address, its file, and its start and end there.
@@ -83,100 +83,96 @@ pub(crate) fn list_two(
     out: &mut [u8],
 ) -> Export {
     annotated::format_annotated(
-        &[0x12, 0x34],
-        bits,
-        &[a.offset, b.offset],
-        &[a.size, b.size],
-        &[a.addr, b.addr],
-        &[a.file, b.file],
-        &[a.start, b.start],
-        &[a.end, b.end],
-        b"nop",
-        b"ack",
+        Image::new(&[0x12, 0x34], bits),
+        SpanColumns {
+            offsets: &[a.offset, b.offset],
+            sizes: &[a.size, b.size],
+            addrs: &[a.addr, b.addr],
+            files: &[a.file, b.file],
+            starts: &[a.start, b.start],
+            ends: &[a.end, b.end],
+        },
+        Sources {
+            firmware: b"nop",
+            protocol: b"ack",
+        },
         options,
         out,
     )
 }
 
 // Tells whether two spans give the text.
-fn lists(
-    rt: &impl Print,
+fn lists<P: Print>(
+    t: &mut Tally<P>,
     name: &str,
     bits: usize,
     a: Row,
     b: Row,
     options: FormatAnnotatedOptions,
     text: &[u8],
-) -> io::Result<u64>
-    requires { length text.now ≤ 256 }
-    ensures { IfOk result (λ n. n ≤ 1) }
-{
+) -> io::Result<()> {
     let mut out = [OLD; 256];
     let answer = list_two(bits, a, b, options, &mut out);
-    tell(rt, name, gave(answer, &out, 0, text.len(), text))
+    t.tell(name, gave(answer, &out, Ok(text)))
 }
 
-fn listing_row(rt: &impl Print) -> io::Result<u64>
-    ensures { IfOk result (λ n. n ≤ 1) }
-{
+fn listing_row<P: Print>(t: &mut Tally<P>) -> io::Result<()> {
     let mut out = [OLD; 256];
     let answer = annotated::format_annotated(
-        &[0x12],
-        8,
-        &[0],
-        &[8],
-        &[0],
-        &[0],
-        &[0],
-        &[3],
-        b"nop",
-        b"",
+        Image::new(&[0x12], 8),
+        SpanColumns {
+            offsets: &[0],
+            sizes: &[8],
+            addrs: &[0],
+            files: &[0],
+            starts: &[0],
+            ends: &[3],
+        },
+        Sources {
+            firmware: b"nop",
+            protocol: b"",
+        },
         sixteen(0),
         &mut out,
     );
-    tell(
-        rt,
+    t.tell(
         "listing, byte 12, span (0,8)",
         gave(
             answer,
             &out,
-            0,
-            55,
-            b" outp | addr | data (base 16)\n\n  0:0 |    0 | 12 ; nop\n",
+            Ok(b" outp | addr | data (base 16)\n\n  0:0 |    0 | 12 ; nop\n"),
         ),
     )
 }
 
-fn no_spans(rt: &impl Print) -> io::Result<u64>
-    ensures { IfOk result (λ n. n ≤ 1) }
-{
+fn no_spans<P: Print>(t: &mut Tally<P>) -> io::Result<()> {
     let mut out = [OLD; 256];
     let answer = annotated::format_annotated(
-        &[0x12],
-        8,
-        &[],
-        &[],
-        &[],
-        &[],
-        &[],
-        &[],
-        b"",
-        b"",
+        Image::new(&[0x12], 8),
+        SpanColumns {
+            offsets: &[],
+            sizes: &[],
+            addrs: &[],
+            files: &[],
+            starts: &[],
+            ends: &[],
+        },
+        Sources {
+            firmware: b"",
+            protocol: b"",
+        },
         sixteen(1),
         &mut out,
     );
-    tell(
-        rt,
+    t.tell(
         "listing, no spans: the heading alone",
-        gave(answer, &out, 0, 31, b" outp | addr | data (base 16)\n\n"),
+        gave(answer, &out, Ok(b" outp | addr | data (base 16)\n\n")),
     )
 }
 
-fn by_offset(rt: &impl Print) -> io::Result<u64>
-    ensures { IfOk result (λ n. n ≤ 1) }
-{
+fn by_offset<P: Print>(t: &mut Tally<P>) -> io::Result<()> {
     lists(
-        rt,
+        t,
         "listing, spans (8,8) (0,8) by offset",
         16,
         nop(8, 8),
@@ -187,11 +183,9 @@ fn by_offset(rt: &impl Print) -> io::Result<u64>
 }
 
 // Its address does not count in the width of the column.
-fn absent_first(rt: &impl Print) -> io::Result<u64>
-    ensures { IfOk result (λ n. n ≤ 1) }
-{
+fn absent_first<P: Print>(t: &mut Tally<P>) -> io::Result<()> {
     lists(
-        rt,
+        t,
         "listing, an absent offset first",
         16,
         nop(8, 8),
@@ -201,11 +195,9 @@ fn absent_first(rt: &impl Print) -> io::Result<u64>
     )
 }
 
-fn equal_offsets(rt: &impl Print) -> io::Result<u64>
-    ensures { IfOk result (λ n. n ≤ 1) }
-{
+fn equal_offsets<P: Print>(t: &mut Tally<P>) -> io::Result<()> {
     lists(
-        rt,
+        t,
         "listing, equal offsets in the order lent",
         16,
         nop(0, 8),
@@ -216,9 +208,7 @@ fn equal_offsets(rt: &impl Print) -> io::Result<u64>
 }
 
 // Its widths count, and a file that there is not is no fault.
-fn hidden(rt: &impl Print) -> io::Result<u64>
-    ensures { IfOk result (λ n. n ≤ 1) }
-{
+fn hidden<P: Print>(t: &mut Tally<P>) -> io::Result<()> {
     let label = Row {
         offset: 16777216,
         size: 0,
@@ -228,7 +218,7 @@ fn hidden(rt: &impl Print) -> io::Result<u64>
         end: 0,
     };
     lists(
-        rt,
+        t,
         "listing, labels off: an empty span is hidden and counts in the widths",
         16,
         nop(0, 8),
@@ -238,11 +228,9 @@ fn hidden(rt: &impl Print) -> io::Result<u64>
     )
 }
 
-fn label(rt: &impl Print) -> io::Result<u64>
-    ensures { IfOk result (λ n. n ≤ 1) }
-{
+fn label<P: Print>(t: &mut Tally<P>) -> io::Result<()> {
     lists(
-        rt,
+        t,
         "listing, labels on: the same span is shown",
         16,
         nop(0, 8),
@@ -252,11 +240,9 @@ fn label(rt: &impl Print) -> io::Result<u64>
     )
 }
 
-fn base_of_ten(rt: &impl Print) -> io::Result<u64>
-    ensures { IfOk result (λ n. n ≤ 1) }
-{
+fn base_of_ten<P: Print>(t: &mut Tally<P>) -> io::Result<()> {
     lists(
-        rt,
+        t,
         "listing, address base 10, the highest address",
         16,
         nop(0, 8),
@@ -267,11 +253,9 @@ fn base_of_ten(rt: &impl Print) -> io::Result<u64>
 }
 
 // The column is as wide as the digits and a space for each whole group, less one: here 6.
-fn bases_of_two(rt: &impl Print) -> io::Result<u64>
-    ensures { IfOk result (λ n. n ≤ 1) }
-{
+fn bases_of_two<P: Print>(t: &mut Tally<P>) -> io::Result<()> {
     lists(
-        rt,
+        t,
         "listing, both bases 2: a bit number of three digits",
         16,
         nop(15, 1),
@@ -281,11 +265,9 @@ fn bases_of_two(rt: &impl Print) -> io::Result<u64>
     )
 }
 
-fn past_the_end(rt: &impl Print) -> io::Result<u64>
-    ensures { IfOk result (λ n. n ≤ 1) }
-{
+fn past_the_end<P: Print>(t: &mut Tally<P>) -> io::Result<()> {
     lists(
-        rt,
+        t,
         "listing, 14 bits: a digit with a bit past the end is a point",
         14,
         nop(8, 8),
@@ -295,11 +277,9 @@ fn past_the_end(rt: &impl Print) -> io::Result<u64>
     )
 }
 
-fn base_of_thirty_two(rt: &impl Print) -> io::Result<u64>
-    ensures { IfOk result (λ n. n ≤ 1) }
-{
+fn base_of_thirty_two<P: Print>(t: &mut Tally<P>) -> io::Result<()> {
     lists(
-        rt,
+        t,
         "listing, base 32: the last digit takes the bits after the span",
         16,
         nop(0, 16),
@@ -309,11 +289,9 @@ fn base_of_thirty_two(rt: &impl Print) -> io::Result<u64>
     )
 }
 
-fn five_groups(rt: &impl Print) -> io::Result<u64>
-    ensures { IfOk result (λ n. n ≤ 1) }
-{
+fn five_groups<P: Print>(t: &mut Tally<P>) -> io::Result<()> {
     lists(
-        rt,
+        t,
         "listing, five groups widen the column",
         16,
         nop(0, 20),
@@ -323,11 +301,9 @@ fn five_groups(rt: &impl Print) -> io::Result<u64>
     )
 }
 
-fn six_groups(rt: &impl Print) -> io::Result<u64>
-    ensures { IfOk result (λ n. n ≤ 1) }
-{
+fn six_groups<P: Print>(t: &mut Tally<P>) -> io::Result<()> {
     lists(
-        rt,
+        t,
         "listing, six groups do not",
         16,
         nop(0, 24),
@@ -337,11 +313,9 @@ fn six_groups(rt: &impl Print) -> io::Result<u64>
     )
 }
 
-fn parts_of_texts(rt: &impl Print) -> io::Result<u64>
-    ensures { IfOk result (λ n. n ≤ 1) }
-{
+fn parts_of_texts<P: Print>(t: &mut Tally<P>) -> io::Result<()> {
     lists(
-        rt,
+        t,
         "listing, a part of the protocol's text, and an empty one of the firmware's",
         16,
         part(1, 1, 3),
@@ -351,23 +325,20 @@ fn parts_of_texts(rt: &impl Print) -> io::Result<u64>
     )
 }
 
-// Runs them all, and answers how many came out.
-pub(crate) fn all(rt: &impl Print) -> io::Result<u64>
-    ensures { IfOk result (λ n. n ≤ 14) }
-{
-    let mut count = listing_row(rt)?;
-    count += no_spans(rt)?;
-    count += by_offset(rt)?;
-    count += absent_first(rt)?;
-    count += equal_offsets(rt)?;
-    count += hidden(rt)?;
-    count += label(rt)?;
-    count += base_of_ten(rt)?;
-    count += bases_of_two(rt)?;
-    count += past_the_end(rt)?;
-    count += base_of_thirty_two(rt)?;
-    count += five_groups(rt)?;
-    count += six_groups(rt)?;
-    count += parts_of_texts(rt)?;
-    Ok(count)
+// Runs them all.
+pub(crate) fn all<P: Print>(t: &mut Tally<P>) -> io::Result<()> {
+    listing_row(t)?;
+    no_spans(t)?;
+    by_offset(t)?;
+    absent_first(t)?;
+    equal_offsets(t)?;
+    hidden(t)?;
+    label(t)?;
+    base_of_ten(t)?;
+    bases_of_two(t)?;
+    past_the_end(t)?;
+    base_of_thirty_two(t)?;
+    five_groups(t)?;
+    six_groups(t)?;
+    parts_of_texts(t)
 }

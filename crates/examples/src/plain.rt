@@ -1,146 +1,128 @@
 // The binary file, the digits of an image and the files of Verilog.
-ghost use Rattle.std.specs.Prelude.{◌≤◌, IfOk};
-
-use crate::tell::{OLD, gave, tell};
+use crate::tell::{OLD, Tally, gave};
+use bitvec::Image;
+use outcome::Refusal;
 use std::io;
 
 // The bits 10110 stand in a byte whose spare bits are set.
-pub(crate) fn hexstr_row(rt: &impl Print) -> io::Result<u64>
-    ensures { IfOk result (λ n. n ≤ 1) }
-{
+fn hexstr_row<P: Print>(t: &mut Tally<P>) -> io::Result<()> {
     let mut out = [OLD; 256];
-    let answer = format_plain::format_hexstr(&[0b10110111], 5, &mut out);
-    tell(rt, "hexstr, bits 10110", gave(answer, &out, 0, 2, b"b0"))
+    let answer = format_plain::format_hexstr(Image::new(&[0b10110111], 5), &mut out);
+    t.tell("hexstr, bits 10110", gave(answer, &out, Ok(b"b0")))
 }
 
-pub(crate) fn readmemh_row(rt: &impl Print) -> io::Result<u64>
-    ensures { IfOk result (λ n. n ≤ 1) }
-{
+fn readmemh_row<P: Print>(t: &mut Tally<P>) -> io::Result<()> {
     let mut out = [OLD; 256];
-    let answer = format_readmem::format_readmemh(&[0b10110111], 5, 5, &mut out);
-    tell(
-        rt,
+    let answer = format_readmem::format_readmemh(Image::new(&[0b10110111], 5), 5, &mut out);
+    t.tell(
         "readmemh width 5, bits 10110",
-        gave(answer, &out, 0, 3, b"16\n"),
+        gave(answer, &out, Ok(b"16\n")),
     )
 }
 
-pub(crate) fn readmemb_row(rt: &impl Print) -> io::Result<u64>
-    ensures { IfOk result (λ n. n ≤ 1) }
-{
+fn readmemb_row<P: Print>(t: &mut Tally<P>) -> io::Result<()> {
     let mut out = [OLD; 256];
-    let answer = format_readmem::format_readmemb(&[0b10110111], 5, 3, &mut out);
-    tell(
-        rt,
+    let answer = format_readmem::format_readmemb(Image::new(&[0b10110111], 5), 3, &mut out);
+    t.tell(
         "readmemb width 3, bits 10110",
-        gave(answer, &out, 0, 7, b"101\n10\n"),
+        gave(answer, &out, Ok(b"101\n10\n")),
     )
 }
 
-pub(crate) fn past_the_bytes(rt: &impl Print) -> io::Result<u64>
-    ensures { IfOk result (λ n. n ≤ 1) }
-{
+fn past_the_bytes<P: Print>(t: &mut Tally<P>) -> io::Result<()> {
     let mut out = [OLD; 256];
-    let answer = format_plain::format_hexstr(&[0b10110111], 9, &mut out);
-    tell(
-        rt,
+    let answer = format_plain::format_hexstr(Image::new(&[0b10110111], 9), &mut out);
+    t.tell(
         "refusal 1: 9 bits of one byte",
-        gave(answer, &out, 1, 0, b""),
+        gave(answer, &out, Err(Refusal::ImageSize)),
     )
 }
 
-pub(crate) fn past_the_largest(rt: &impl Print) -> io::Result<u64>
-    ensures { IfOk result (λ n. n ≤ 1) }
-{
+fn past_the_largest<P: Print>(t: &mut Tally<P>) -> io::Result<()> {
     let mut out = [OLD; 256];
-    let answer = format_readmem::format_readmemb(&[0b10110111], 16777217, 0, &mut out);
-    tell(
-        rt,
+    let answer = format_readmem::format_readmemb(Image::new(&[0b10110111], 16777217), 0, &mut out);
+    t.tell(
         "refusal 1: 16,777,217 bits, before a width of 0",
-        gave(answer, &out, 1, 0, b""),
+        gave(answer, &out, Err(Refusal::ImageSize)),
     )
 }
 
-pub(crate) fn readmemb_no_width(rt: &impl Print) -> io::Result<u64>
-    ensures { IfOk result (λ n. n ≤ 1) }
-{
+fn readmemb_no_width<P: Print>(t: &mut Tally<P>) -> io::Result<()> {
     let mut out = [OLD; 256];
-    let answer = format_readmem::format_readmemb(&[0b10110111], 5, 0, &mut out);
-    tell(
-        rt,
+    let answer = format_readmem::format_readmemb(Image::new(&[0b10110111], 5), 0, &mut out);
+    t.tell(
         "refusal 2: readmemb width 0",
-        gave(answer, &out, 2, 0, b""),
+        gave(answer, &out, Err(Refusal::OptionRange)),
     )
 }
 
-pub(crate) fn readmemh_no_width(rt: &impl Print) -> io::Result<u64>
-    ensures { IfOk result (λ n. n ≤ 1) }
-{
+fn readmemh_no_width<P: Print>(t: &mut Tally<P>) -> io::Result<()> {
     let mut out = [OLD; 256];
-    let answer = format_readmem::format_readmemh(&[0b10110111], 5, 0, &mut out);
-    tell(
-        rt,
+    let answer = format_readmem::format_readmemh(Image::new(&[0b10110111], 5), 0, &mut out);
+    t.tell(
         "refusal 2: readmemh width 0",
-        gave(answer, &out, 2, 0, b""),
+        gave(answer, &out, Err(Refusal::OptionRange)),
     )
 }
 
-pub(crate) fn readmemh_wide(rt: &impl Print) -> io::Result<u64>
-    ensures { IfOk result (λ n. n ≤ 1) }
-{
+fn readmemh_wide<P: Print>(t: &mut Tally<P>) -> io::Result<()> {
     let mut out = [OLD; 256];
-    let answer = format_readmem::format_readmemh(&[0b10110111], 5, 4097, &mut out);
-    tell(
-        rt,
+    let answer = format_readmem::format_readmemh(Image::new(&[0b10110111], 5), 4097, &mut out);
+    t.tell(
         "refusal 2: readmemh width 4,097",
-        gave(answer, &out, 2, 0, b""),
+        gave(answer, &out, Err(Refusal::OptionRange)),
     )
 }
 
-pub(crate) fn str_of_six_bits(rt: &impl Print) -> io::Result<u64>
-    ensures { IfOk result (λ n. n ≤ 1) }
-{
+fn str_of_six_bits<P: Print>(t: &mut Tally<P>) -> io::Result<()> {
     let mut out = [OLD; 256];
-    let answer = format_plain::format_str(&[0b10110111], 5, 6, &mut out);
-    tell(
-        rt,
+    let answer = format_plain::format_str(Image::new(&[0b10110111], 5), 6, &mut out);
+    t.tell(
         "refusal 2: 6 bits per digit",
-        gave(answer, &out, 2, 0, b""),
+        gave(answer, &out, Err(Refusal::OptionRange)),
     )
 }
 
-pub(crate) fn empty_image(rt: &impl Print) -> io::Result<u64>
-    ensures { IfOk result (λ n. n ≤ 1) }
-{
+fn empty_image<P: Print>(t: &mut Tally<P>) -> io::Result<()> {
     let mut out = [OLD; 256];
-    let answer = format_readmem::format_readmemh(b"", 0, 8, &mut out);
-    tell(
-        rt,
-        "readmemh of an empty image",
-        gave(answer, &out, 0, 0, b""),
-    )
+    let answer = format_readmem::format_readmemh(Image::new(b"", 0), 8, &mut out);
+    t.tell("readmemh of an empty image", gave(answer, &out, Ok(b"")))
 }
 
 // Refusal 8 leaves the buffer as it was.
-pub(crate) fn no_room(rt: &impl Print) -> io::Result<u64>
-    ensures { IfOk result (λ n. n ≤ 1) }
-{
+fn no_room<P: Print>(t: &mut Tally<P>) -> io::Result<()> {
     let mut out = [OLD; 256];
-    let answer = format_plain::format_hexstr(&[0b10110111], 5, &mut out[..1]);
-    tell(
-        rt,
+    let answer = format_plain::format_hexstr(Image::new(&[0b10110111], 5), &mut out[..1]);
+    t.tell(
         "refusal 8: hexstr in a room of 1",
-        gave(answer, &out, 8, 2, b""),
+        gave(answer, &out, Err(Refusal::NoRoom(2))),
     )
 }
 
 // The last byte is filled with zeros, and the answer says so.
-pub(crate) fn binary_padded(rt: &impl Print) -> io::Result<u64>
-    ensures { IfOk result (λ n. n ≤ 1) }
-{
+fn binary_padded<P: Print>(t: &mut Tally<P>) -> io::Result<()> {
     let mut out = [OLD; 256];
-    let answer = format_plain::format_binary(&[0xab, 0xcf], 12, &mut out);
-    let export = answer.export;
-    let same = gave(export, &out, 0, 2, b"\xab\xc0");
-    tell(rt, "binary, 12 bits abc, padded", same && answer.padded)
+    let answer = format_plain::format_binary(Image::new(&[0xab, 0xcf], 12), &mut out);
+    let export = answer.map(|binary| binary.length);
+    let same = gave(export, &out, Ok(b"\xab\xc0"));
+    t.tell(
+        "binary, 12 bits abc, padded",
+        same && answer.is_ok_and(|binary| binary.padded),
+    )
+}
+
+// Runs them all.
+pub(crate) fn all<P: Print>(t: &mut Tally<P>) -> io::Result<()> {
+    hexstr_row(t)?;
+    readmemh_row(t)?;
+    readmemb_row(t)?;
+    past_the_bytes(t)?;
+    past_the_largest(t)?;
+    readmemb_no_width(t)?;
+    readmemh_no_width(t)?;
+    readmemh_wide(t)?;
+    str_of_six_bits(t)?;
+    empty_image(t)?;
+    no_room(t)?;
+    binary_padded(t)
 }

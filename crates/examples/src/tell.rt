@@ -1,30 +1,51 @@
 // What an example expects, and whether it came.
-ghost use Rattle.std.specs.Prelude.{◌≤◌, length, IfOk};
-
 use outcome::{Export, Refusal};
 use std::io;
 
 // What stands in the output buffer before a call.
 pub(crate) const OLD: u8 = 90;
 
-// Prints whether an example came out, and answers 1 where it did.
-pub(crate) fn tell(rt: &impl Print, name: &str, ok: bool) -> io::Result<u64>
-    ensures { IfOk result (λ n. n ≤ 1) }
-{
-    if ok {
-        println!(rt; "{name}: ok")?;
-        return Ok(1);
-    }
-    println!(rt; "{name}: WRONG")?;
-    Ok(0)
+// What an example expects of an export: its text, or the refusal.
+pub(crate) type Expected<'a> = Result<&'a [u8], Refusal>;
+
+// The console, and how many examples came out.
+#[derive(Drop)]
+pub(crate) struct Tally<'a, P> {
+    rt: &'a P,
+    passed: u64,
 }
 
-// Whether the answer has the number and the value, and the buffer the text at its front and its old
+impl<'a, P: Print> Tally<'a, P> {
+    pub(crate) fn new(rt: &'a P) -> Tally<'a, P> {
+        Tally { rt, passed: 0 }
+    }
+
+    // Prints whether an example came out, and counts it where it did.
+    pub(crate) fn tell(&mut self, name: &str, ok: bool) -> io::Result<()> {
+        let rt = self.rt;
+        if !ok {
+            return println!(rt; "{name}: WRONG");
+        }
+        self.passed = self.passed.saturating_add(1);
+        println!(rt; "{name}: ok")
+    }
+
+    // Prints how many came out.
+    pub(crate) fn total(&self) -> io::Result<()> {
+        let rt = self.rt;
+        let passed = self.passed;
+        println!(rt; "{passed} examples came out")
+    }
+}
+
+// Whether the answer is the one expected, and the buffer has the expected text at its front and its old
 // contents behind it.
-pub(crate) fn gave(answer: Export, out: &[u8; 256], number: u32, value: usize, text: &[u8]) -> bool
-    requires { length text.now ≤ 256 }
-{
-    let mut expected = [OLD; 256];
-    output::put_all(&mut expected, 0, text);
-    answer.number() == number && answer.value() == value && *out == expected
+pub(crate) fn gave(answer: Export, out: &[u8; 256], expected: Expected) -> bool {
+    let mut buffer = [OLD; 256];
+    let text = expected.unwrap_or(b"");
+    if 256 < text.len() {
+        return false;
+    }
+    output::put_all(&mut buffer, 0, text);
+    answer == expected.map(|text| text.len()) && *out == buffer
 }

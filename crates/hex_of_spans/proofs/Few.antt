@@ -16,34 +16,31 @@ use Rattle.intelhex.specs.Hex.{plan_outcome, hex_outcome}
 use Rattle.intelhex.specs.TwoImages.{Agree, SameAnswers}
 use Rattle.intelhex.proofs.Calls.{calls_rule}
 use Rattle.spans.specs.declared.Span.{Span}
-use Rattle.spans.specs.Copies.{columns_of}
 use Rattle.spans.specs.Spans.{offset_number, offsets_of, sizes_of}
-use Rattle.spans.proofs.Few.{offsets_front, sizes_front, checked_few}
+use Rattle.spans.proofs.Few.{checked_few}
 
 one_length : (xs : List Span) → length (offsets_of xs) ≡ length (sizes_of xs)
 one_length xs = map_length (λ s. offset_number s.offset) xs ∙ sym (map_length (λ s. s.size) xs)
 
 pub blocks_few : (xs : List Span) (room room₂ : ℕ)
-    → blocks_found (take (columns_of xs).count (columns_of xs).offsets) (take (columns_of xs).count (columns_of xs).sizes) room room₂ ≡ blocks_found (offsets_of xs) (sizes_of xs) room room₂
+    → blocks_found (take 4097 (offsets_of xs)) (take 4097 (sizes_of xs)) room room₂ ≡ blocks_found (offsets_of xs) (sizes_of xs) room room₂
 unfolding blocks_found
 blocks_few xs room room₂ =
-    rw (offsets_front xs, sizes_front xs)
     (checked_few None-found (λ o s. cond (ltb room (length (blocks_of o s)) || ltb room₂ (length (blocks_of o s))) (None-found 8 (length (blocks_of o s))) (found (blocks_of o s)))
     (offsets_of xs) (sizes_of xs) (one_length xs))
 
 pub hex_few : (bytes : List ℕ) (len : ℕ) (xs : List Span) (unit room : ℕ)
-    → hex_outcome bytes len (take (columns_of xs).count (columns_of xs).offsets) (take (columns_of xs).count (columns_of xs).sizes) unit room
+    → hex_outcome bytes len (take 4097 (offsets_of xs)) (take 4097 (sizes_of xs)) unit room
     ≡ hex_outcome bytes len (offsets_of xs) (sizes_of xs) unit room
 unfolding hex_outcome
 hex_few bytes len xs unit room =
-    rw (offsets_front xs, sizes_front xs)
     (ap (λ o. cond (bad_size bytes len) (refused 1 0) (cond (outside 1 64 unit) (refused 2 0) o))
     (checked_few refused (λ o s. plan_outcome bytes len (hex_plan unit (blocks_of o s)) room) (offsets_of xs) (sizes_of xs) (one_length xs)))
 
 -- The two-image rule over records, from the core's.
 pub both_few : (b₁ : List ℕ) (n₁ : ℕ) (b₂ : List ℕ) (n₂ : ℕ) (xs : List Span) (unit : ℕ) (r : Both) (out₁ after₁ out₂ after₂ : List ℕ)
-    → (Exports (hex_outcome b₁ n₁ (take (columns_of xs).count (columns_of xs).offsets) (take (columns_of xs).count (columns_of xs).sizes) unit (length out₁)) r.first out₁ after₁)
-    × (Exports (hex_outcome b₂ n₂ (take (columns_of xs).count (columns_of xs).offsets) (take (columns_of xs).count (columns_of xs).sizes) unit (length out₂)) r.second out₂ after₂)
+    → (Exports (hex_outcome b₁ n₁ (take 4097 (offsets_of xs)) (take 4097 (sizes_of xs)) unit (length out₁)) r.first out₁ after₁)
+    × (Exports (hex_outcome b₂ n₂ (take 4097 (offsets_of xs)) (take 4097 (sizes_of xs)) unit (length out₂)) r.second out₂ after₂)
     → (Exports (hex_outcome b₁ n₁ (offsets_of xs) (sizes_of xs) unit (length out₁)) r.first out₁ after₁)
     × (Exports (hex_outcome b₂ n₂ (offsets_of xs) (sizes_of xs) unit (length out₂)) r.second out₂ after₂)
     × (bad_size b₁ n₁ ≡ false → bad_size b₂ n₂ ≡ false → length out₁ ≡ length out₂

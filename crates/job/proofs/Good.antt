@@ -4,6 +4,7 @@ use mathlib.Core.Path.{◌≡◌, refl, sym}
 use mathlib.Core.Bool.{Bool, true, false, ◌||◌, false≢true}
 use mathlib.Core.List.{List}
 use Prim.Native.Nat.{ℕ, ◌+◌, ◌*◌, ◌≤◌}
+use native.Mathlib.Omega.{arith}
 use lib.Dec.{ltb}
 use lib.ListN.{length}
 use borrow.Author.Tests.{ltb-false}
@@ -24,3 +25,7 @@ good_job job = go (ltb 65536 (length job)) (ltb (length job) 20) (ltb (length jo
     go false false true d p q r s e = absurd (false≢true (sym e))
     go false false false true p q r s e = absurd (false≢true (sym e))
     go false false false false p q r s e = (ltb-false _ _ p, ltb-false _ _ q, ltb-false _ _ r, ltb-false _ _ s)
+
+-- So it has no more than 8,192 rows.
+pub few_rows : (job : List ℕ) → bad_job job ≡ false → span_count job ≤ 8192
+few_rows job e = omega (arith, good_job job e)

@@ -2,36 +2,27 @@
 // exported as Intel HEX.
 #![tactic(auto)]
 
-ghost use Rattle.std.specs.Prelude.{◌≡◌, false, ◌+◌, ◌*◌, ◌≤◌, ◌<◌, ◌^◌, length, get_or, take, drop};
+ghost use Rattle.std.specs.Prelude.{◌≡◌, false, ◌+◌, ◌*◌, ◌≤◌, ◌<◌, ◌^◌, length, take, drop};
 ghost use Rattle.bitvec.specs.Size.{ceil_div};
 ghost use Rattle.output.specs.Writes.{Writes};
 ghost use Rattle.outcome.specs.Outcome.{refused, Exports};
 ghost use Rattle.intelhex.specs.Hex.{hex_outcome};
 ghost use Rattle.job.specs.Job.{word, column, bad_job, job_outcome, printed};
 
-use bitvec::parts;
+use bitvec::{Image, parts};
 use intelhex::format_intelhex;
 use numbers::{Letters, Radix, put_number};
-use outcome::{Export, Refusal};
+use outcome::Export;
 use output::put_all;
-
-// The byte at a place, as a wider number.
-fn byte_at(job: &[u8], at: usize) -> u32
-    requires { at < length job.now }
-    ensures { (result ≡ get_or job.now at 0) × (result < 256) }
-{
-    job[at] as u32
-}
 
 // The little-endian 32-bit number at a place.
 fn read_word(job: &[u8], at: usize) -> u32
     requires { at + 4 ≤ length job.now }
     ensures { result ≡ word job.now at }
 {
-    byte_at(job, at)
-        + 256 * byte_at(job, at + 1)
-        + 65536 * byte_at(job, at + 2)
-        + 16777216 * byte_at(job, at + 3)
+    let mut word = [0; 4];
+    word.copy_from_slice(&job[at..at + 4]);
+    u32::from_le_bytes(word)
 }
 
 // Reads one number of each row of a table into `to`, which has a place for each row.
@@ -39,20 +30,18 @@ fn read_column(job: &[u8], at: usize, to: &mut [u32])
     requires { at + 8 * length to.old ≤ length job.now + 4 }
     ensures { to.new ≡ column job.now at (length to.old) }
 {
-    for k in 0..to.len() {
-        to[k] = read_word(job, at + 8 * k);
+    for (k, number) in to.iter_mut().enumerate() {
+        *number = read_word(job, at + 8 * k);
     }
 }
 
 // Whether the job cannot be read, the cause of refusal 9.
+#[tactic(auto, using(bitvec::proofs::Size::ceil_most), unfolding(crate::specs::Job::bad_job))]
 fn bad_job(job: &[u8]) -> bool
     ensures { result ≡ bad_job job.now }
 {
     let n = job.len();
-    if 65536 < n {
-        return true;
-    }
-    if n < 20 {
+    if 65536 < n || n < 20 {
         return true;
     }
     let image_bytes = parts(read_word(job, 0) as usize, 8);
@@ -92,10 +81,15 @@ fn export_rows(
     read_column(job, table, offsets);
     read_column(job, table + 4, sizes);
     let end = image + parts(bits, 8);
-    format_intelhex(&job[image..end], bits, offsets, sizes, unit, out)
+    let image = Image {
+        bytes: &job[image..end],
+        len: bits,
+    };
+    format_intelhex(image, offsets, sizes, unit, out)
 }
 
-// Room for a number of each row: a job has no more than 8,192.
+// Room for a number of each row: a job has no more than 8,192. Written in place, the array has no name
+// in the proof of `export_job`, which didn't close.
 fn rows() -> [u32; 8192]
     ensures { length result ≡ 8192 }
 {
@@ -103,6 +97,7 @@ fn rows() -> [u32; 8192]
 }
 
 // Exports what a job that can be read points to.
+#[tactic(auto, using(crate::proofs::Good::good_job, crate::proofs::Good::few_rows))]
 fn export_job(job: &[u8], out: &mut [u8]) -> Export
     requires { (bad_job job.now ≡ false) × (length out.old ≡ 65536) }
     ensures { Exports (job_outcome job.now) result out.old out.new }
@@ -127,6 +122,7 @@ fn export_job(job: &[u8], out: &mut [u8]) -> Export
 }
 
 // Runs a job: what is printed stands at the front of `out`, and its length is answered.
+#[tactic(auto, using(crate::proofs::Printed::number_small, crate::proofs::Printed::refused_kept))]
 pub fn run_job(job: &[u8], out: &mut [u8; 65536]) -> usize
     ensures printed { Writes (printed (job_outcome job.now)) out.old 0 out.new result }
     ensures room { result ≤ 65536 }
@@ -134,10 +130,8 @@ pub fn run_job(job: &[u8], out: &mut [u8; 65536]) -> usize
     if bad_job(job) {
         return put_refused(9, out);
     }
-    let export = export_job(job, out);
-    let number = export.number();
-    if number == 0 {
-        return export.value();
+    match export_job(job, out) {
+        Ok(length) => length,
+        Err(refusal) => put_refused(refusal.number(), out),
     }
-    put_refused(number, out)
 }

@@ -13,16 +13,15 @@ use Rattle.outcome.specs.Outcome.{Outcome, refused}
 use Rattle.ordering.proofs.Lists.{map_length}
 use Rattle.span_range.specs.Range.{long_list, spans_checked}
 use Rattle.listing.specs.declared.FormatAnnotatedOptions.{FormatAnnotatedOptions}
-use Rattle.listing.specs.Listing.{bad_annotated, Spans, spans_of}
-use Rattle.annotated.specs.Annotated.{unequal, listed_outcome, annotated_outcome}
+use Rattle.listing.specs.Listing.{bad_annotated, Spans, spans_of, unequal}
+use Rattle.annotated.specs.Annotated.{listed_outcome, annotated_outcome}
 use Rattle.spans.specs.declared.Span.{Span}
-use Rattle.spans.specs.Copies.{columns_of, listing_columns_of}
 use Rattle.spans.specs.Spans.{offset_number, start_number, end_number, offsets_of, sizes_of, addrs_of, files_of, starts_of, ends_of}
-use Rattle.spans.proofs.Few.{offsets_front, sizes_front, addrs_front, files_front, starts_front, ends_front, columns_room, listing_columns_room, long}
+use Rattle.spans.proofs.Few.{long}
 use Rattle.listing_of_spans.specs.Records.{record_spans}
 
 -- The first 4,097 spans.
-abbrev first_spans : List Span → Spans
+abbrev pub first_spans : List Span → Spans
 first_spans xs =
     spans_of (take 4097 (offsets_of xs)) (take 4097 (sizes_of xs)) (take 4097 (addrs_of xs)) (take 4097 (files_of xs)) (take 4097 (starts_of xs)) (take 4097 (ends_of xs))
 
@@ -52,20 +51,6 @@ module _ (xs : List Span) where
         ∙ sym (refused_long (unequal (record_spans xs)) (offsets_of xs) (sizes_of xs) _ (long _ _ (omega (arith, map_length (λ s. offset_number s.offset) xs)))))
         (λ h. ap checked (same_spans h))
 
-    pub listing_few :
-        annotated_outcome bytes len o
-        (spans_of (take (columns_of xs).count (columns_of xs).offsets) (take (columns_of xs).count (columns_of xs).sizes) (take (columns_of xs).count (listing_columns_of xs).addrs)
-        (take (columns_of xs).count (listing_columns_of xs).files) (take (columns_of xs).count (listing_columns_of xs).starts) (take (columns_of xs).count (listing_columns_of xs).ends))
-        firmware protocol room
-        ≡ annotated_outcome bytes len o (record_spans xs) firmware protocol room
+    pub listing_few : annotated_outcome bytes len o (first_spans xs) firmware protocol room ≡ annotated_outcome bytes len o (record_spans xs) firmware protocol room
     unfolding annotated_outcome
-    listing_few =
-        rw (offsets_front xs, sizes_front xs, addrs_front xs, files_front xs, starts_front xs, ends_front xs)
-        (ap (λ a. cond (bad_size bytes len) (refused 1 0) (cond (bad_annotated o) (refused 2 0) a)) checked_same)
-
-  -- There is a place for each of them.
-  pub all_room :
-      ((columns_of xs).count ≤ length (columns_of xs).offsets) × ((columns_of xs).count ≤ length (columns_of xs).sizes)
-      × ((columns_of xs).count ≤ length (listing_columns_of xs).addrs) × ((columns_of xs).count ≤ length (listing_columns_of xs).files)
-      × ((columns_of xs).count ≤ length (listing_columns_of xs).starts) × ((columns_of xs).count ≤ length (listing_columns_of xs).ends)
-  all_room = ((columns_room xs).0, (columns_room xs).1, (listing_columns_room xs).0, (listing_columns_room xs).1, (listing_columns_room xs).2, (listing_columns_room xs).3)
+    listing_few = ap (λ a. cond (bad_size bytes len) (refused 1 0) (cond (bad_annotated o) (refused 2 0) a)) checked_same

@@ -2,21 +2,20 @@
 -- Assumes nothing.
 use mathlib.Core.Path.{◌≡◌, refl, sym, ap, ◌∙◌}
 use mathlib.Core.List.{List, [], ◌∷◌, map}
-use Prim.Native.Nat.{ℕ, zero, suc, ◌+◌, ◌<◌, min}
+use Prim.Native.Nat.{ℕ, zero, suc, ◌+◌, ◌<◌, ◌≤◌, min}
 use native.Mathlib.Nat.{not-suc-le-zero, le_of_suc-le-suc}
 use native.Mathlib.Omega.{arith}
 use lib.ListN.{length, get_or, take, set, length-replicate, length-take}
 use lib.Seq.{sets, length-sets, take_all, take-take}
+use Rattle.std.specs.List.{take-map}
 use Rattle.ordering.proofs.Lists.{map_length, sets_copied}
-use Rattle.spans.specs.declared.Offset.TheVariants.{Absent}
-use Rattle.spans.specs.declared.Location.TheVariants.{Nowhere}
+use Rattle.std.specs.Prelude.{None}
 use Rattle.spans.specs.declared.Span.{Span}
-use Rattle.spans.specs.Copies.{zeros, column, columns_of, listing_columns_of}
-use Rattle.spans.specs.Spans.{offset_number, start_number, end_number, offsets_of, sizes_of, addrs_of, files_of, starts_of, ends_of}
+use Rattle.spans.specs.Copies.{zeros, column}
 
 -- The record that stands past the end of a list.
 abbrev pub no_span : Span
-no_span = record { offset = Absent; size = 0; addr = 0; file_handle = 0; location = Nowhere }
+no_span = record { offset = None; size = 0; addr = 0; file_handle = 0; location = None }
 
 pub zeros_length : length zeros ≡ 4097
 unfolding zeros
@@ -47,20 +46,15 @@ copied w xs i l = copied_in w xs i no_span l
 pub take_most : {A : Type 0} (l : List A) (k n : ℕ) → length l ≡ n → take (min k n) l ≡ take k l
 take_most l k n e = sym (take-take (min k n) k l (omega arith)) ∙ take_all (min k n) (take k l) (omega (arith, length-take k l))
 
--- All are copied.
-all_copied : (w : Span → ℕ) (xs : List Span) → sets zeros 0 (take (min (length xs) 4097) (map w xs)) ≡ column (map w xs)
+-- All of the first are copied.
+pub all_copied : (w : Span → ℕ) (xs : List Span) {first : List Span} {i : ℕ} → first ≡ take (min (length xs) 4097) xs → length first ≤ i
+    → sets zeros 0 (take i (map w first)) ≡ column (map w xs)
 unfolding column
-all_copied w xs =
-    let e : min (length xs) 4097 ≡ min 4097 (length xs) = omega arith in
-    ap (λ (k : ℕ). sets zeros 0 (take k (map w xs))) e ∙ ap (sets zeros 0) (take_most (map w xs) 4097 (length xs) (map_length w xs))
+all_copied w xs {first = first} {i = i} e h =
+    let n : min (length xs) 4097 ≡ min 4097 (length xs) = omega arith in
+    let most : map w first ≡ take 4097 (map w xs) = rw (e, ← take-map w (min (length xs) 4097) xs, n) (take_most (map w xs) 4097 (length xs) (map_length w xs)) in
+    ap (sets zeros 0) (take_all i (map w first) (omega (arith, h, map_length w first)) ∙ most)
 
-pub columns_is : (xs : List Span)
-    → record { offsets = sets zeros 0 (take (min (length xs) 4097) (offsets_of xs)); sizes = sets zeros 0 (take (min (length xs) 4097) (sizes_of xs)); count = min (length xs) 4097 } ≡ columns_of xs
-unfolding columns_of
-columns_is xs = rw (all_copied (λ s. offset_number s.offset) xs, all_copied (λ s. s.size) xs) refl
-
-pub listing_columns_is : (xs : List Span)
-    → record { addrs = sets zeros 0 (take (min (length xs) 4097) (addrs_of xs)); files = sets zeros 0 (take (min (length xs) 4097) (files_of xs)); starts = sets zeros 0 (take (min (length xs) 4097) (starts_of xs)); ends = sets zeros 0 (take (min (length xs) 4097) (ends_of xs)) } ≡ listing_columns_of xs
-unfolding listing_columns_of
-listing_columns_is xs =
-    rw (all_copied (λ s. s.addr) xs, all_copied (λ s. s.file_handle) xs, all_copied (λ s. start_number s.location) xs, all_copied (λ s. end_number s.location) xs) refl
+-- A column has room for them.
+pub copied_room : (w : Span → ℕ) (xs : List Span) (i : ℕ) {k : ℕ} {numbers : List ℕ} → numbers ≡ sets zeros 0 (take i (map w (take k xs))) → k ≡ min (length xs) 4097 → length (take k xs) ≤ length numbers
+copied_room w xs i {k = k} e h = rw e (omega (arith, h, copied_length w (take k xs) i, length-take k xs))

@@ -12,7 +12,9 @@ use Rattle.output.proofs.Order.{by_order}
 use Rattle.ordering.proofs.Lists.{map_length, sets_front}
 use Rattle.span_range.specs.Range.{long_list, spans_checked}
 use Rattle.spans.specs.declared.Span.{Span}
-use Rattle.spans.specs.Copies.{zeros, column, columns_of, listing_columns_of}
+use Rattle.spans.specs.declared.columns.Columns.{Columns}
+use Rattle.spans.specs.declared.columns.ListingColumns.{ListingColumns}
+use Rattle.spans.specs.Copies.{zeros, column, ColumnsOf, ListingColumnsOf}
 use Rattle.spans.specs.Spans.{offset_number, start_number, end_number, offsets_of, sizes_of, addrs_of, files_of, starts_of, ends_of}
 use Rattle.spans.proofs.Copied.{zeros_length}
 
@@ -21,50 +23,29 @@ front : (numbers : List ℕ) (n : ℕ) → n ≡ length numbers → take (min n 
 unfolding column
 front numbers n e = sets_front zeros (take 4097 numbers) (min n 4097) (omega (arith, zeros_length, length-take 4097 numbers)) (omega (arith, length-take 4097 numbers))
 
-column_length : (numbers : List ℕ) → length (column numbers) ≡ 4097
-unfolding column
-column_length numbers = length-sets zeros 0 (take 4097 numbers) ∙ zeros_length
-
-front_of : (w : Span → ℕ) (xs : List Span) → take (min (length xs) 4097) (column (map w xs)) ≡ take 4097 (map w xs)
-front_of w xs = front (map w xs) (length xs) (sym (map_length w xs))
-
 -- The fronts of the columns that are copied.
-module _ (xs : List Span) where
-  pub offsets_front : take (columns_of xs).count (columns_of xs).offsets ≡ take 4097 (offsets_of xs)
-  unfolding columns_of
-  offsets_front = front_of (λ s. offset_number s.offset) xs
+front_of : (w : Span → ℕ) (xs : List Span) {n : ℕ} {numbers : List ℕ} → n ≡ min (length xs) 4097 → numbers ≡ column (map w xs) → take n numbers ≡ take 4097 (map w xs)
+front_of w xs e f = rw (e, f) (front (map w xs) (length xs) (sym (map_length w xs)))
 
-  pub sizes_front : take (columns_of xs).count (columns_of xs).sizes ≡ take 4097 (sizes_of xs)
-  unfolding columns_of
-  sizes_front = front_of (λ s. s.size) xs
+module _ {xs : List Span} {c : Columns} (of : ColumnsOf xs c) where
+  pub offsets_front : take c.count c.offsets ≡ take 4097 (offsets_of xs)
+  offsets_front = front_of (λ s. offset_number s.offset) xs of.count of.offsets
 
-  pub addrs_front : take (columns_of xs).count (listing_columns_of xs).addrs ≡ take 4097 (addrs_of xs)
-  unfolding columns_of listing_columns_of
-  addrs_front = front_of (λ s. s.addr) xs
+  pub sizes_front : take c.count c.sizes ≡ take 4097 (sizes_of xs)
+  sizes_front = front_of (λ s. s.size) xs of.count of.sizes
 
-  pub files_front : take (columns_of xs).count (listing_columns_of xs).files ≡ take 4097 (files_of xs)
-  unfolding columns_of listing_columns_of
-  files_front = front_of (λ s. s.file_handle) xs
+module _ {xs : List Span} {c : ListingColumns} (of : ListingColumnsOf xs c) where
+  pub addrs_front : take c.count c.addrs ≡ take 4097 (addrs_of xs)
+  addrs_front = front_of (λ s. s.addr) xs of.count of.addrs
 
-  pub starts_front : take (columns_of xs).count (listing_columns_of xs).starts ≡ take 4097 (starts_of xs)
-  unfolding columns_of listing_columns_of
-  starts_front = front_of (λ s. start_number s.location) xs
+  pub files_front : take c.count c.files ≡ take 4097 (files_of xs)
+  files_front = front_of (λ s. s.file_handle) xs of.count of.files
 
-  pub ends_front : take (columns_of xs).count (listing_columns_of xs).ends ≡ take 4097 (ends_of xs)
-  unfolding columns_of listing_columns_of
-  ends_front = front_of (λ s. end_number s.location) xs
+  pub starts_front : take c.count c.starts ≡ take 4097 (starts_of xs)
+  starts_front = front_of (λ s. start_number s.location) xs of.count of.starts
 
--- There is a place for each of them.
-pub columns_room : (xs : List Span) → ((columns_of xs).count ≤ length (columns_of xs).offsets) × ((columns_of xs).count ≤ length (columns_of xs).sizes)
-unfolding columns_of
-columns_room xs = (omega (arith, column_length (offsets_of xs)), omega (arith, column_length (sizes_of xs)))
-
-pub listing_columns_room : (xs : List Span)
-    → ((columns_of xs).count ≤ length (listing_columns_of xs).addrs) × ((columns_of xs).count ≤ length (listing_columns_of xs).files)
-    × ((columns_of xs).count ≤ length (listing_columns_of xs).starts) × ((columns_of xs).count ≤ length (listing_columns_of xs).ends)
-unfolding columns_of listing_columns_of
-listing_columns_room xs =
-    (omega (arith, column_length (addrs_of xs)), omega (arith, column_length (files_of xs)), omega (arith, column_length (starts_of xs)), omega (arith, column_length (ends_of xs)))
+  pub ends_front : take c.count c.ends ≡ take 4097 (ends_of xs)
+  ends_front = front_of (λ s. end_number s.location) xs of.count of.ends
 
 -- A list of over 4,096 spans is long, also after it was cut.
 pub long : (offsets sizes : List ℕ) → 4096 < length offsets → long_list offsets sizes ≡ true

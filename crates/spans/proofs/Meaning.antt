@@ -15,25 +15,24 @@ use Rattle.ordering.specs.Lists.{first}
 use Rattle.ordering.specs.Order.{absent}
 use Rattle.ordering.proofs.Lists.{map_length}
 use Rattle.span_range.specs.Range.{bad_span, fault_at}
-use Rattle.spans.specs.declared.Offset.{Offset}
-use Rattle.spans.specs.declared.Offset.TheVariants.{At, Absent}
+use Rattle.std.specs.Prelude.{Option, None, Some}
 use Rattle.spans.specs.declared.Span.{Span}
 use Rattle.spans.specs.Spans.{offset_number, start_number, end_number, offset_from, location_from, offsets_of, sizes_of, ends_past}
 use Rattle.spans.proofs.Copied.{no_span, number_at}
 
 -- Only an absent offset has the number of one.
-pub absent_only : (o : Offset) → offset_number o ≡ absent → o ≡ Absent
-absent_only (At bits) e = absurd (omega (arith, e))
-absent_only Absent e = refl
+pub absent_only : (o : Option ℕ) → offset_number o ≡ absent → o ≡ None
+absent_only (Some bits) e = absurd (omega (arith, e))
+absent_only None e = refl
 
 -- The core's test of one span is the record's.
-bad_is : (o : Offset) (size : ℕ) → bad_span (offset_number o) size ≡ ends_past o size
+bad_is : (o : Option ℕ) (size : ℕ) → bad_span (offset_number o) size ≡ ends_past o size
 unfolding bad_span ends_past
-bad_is (At bits) size =
+bad_is (Some bits) size =
     rw (ne_eqb (min bits 4294967294) absent (λ e. omega (arith, e)))
     (by_order bits 4294967295 (λ l. ap (λ (b : ℕ). ltb max_bits (b + size)) (omega arith))
     (λ h. lt-ltb max_bits (min bits 4294967294 + size) (omega arith) ∙ sym (lt-ltb max_bits (bits + size) (omega arith))))
-bad_is Absent size = refl
+bad_is None size = refl
 
 first_same : (f g : ℕ → Bool) (n : ℕ) → ((k : ℕ) → k < n → f k ≡ g k) → first f n ≡ first g n
 unfolding first

@@ -1,38 +1,35 @@
 -- The span record as the numbers of the core (document 01, "What an exporter is lent"; the Rust's `BitVecSpan`).
-use Rattle.std.specs.Prelude.{Bool, false, cond, List, map, ℕ, ◌+◌, min, eqb, ltb}
+use Rattle.std.specs.Prelude.{Bool, false, cond, Option, None, Some, List, map, ℕ, ◌+◌, min, eqb, ltb}
 use Rattle.bitvec.specs.Size.{max_bits}
 use Rattle.ordering.specs.Order.{absent}
-use Rattle.spans.specs.declared.Offset.{Offset}
-use Rattle.spans.specs.declared.Offset.TheVariants.{At, Absent}
 use Rattle.spans.specs.declared.Location.{Location}
-use Rattle.spans.specs.declared.Location.TheVariants.{In, Nowhere}
 use Rattle.spans.specs.declared.Span.{Span}
 
 -- A present offset is its own number, but for the one that says absent: it is too large, as the number below it is.
-abbrev pub offset_number : Offset → ℕ
-offset_number (At bits) = min bits 4294967294
-offset_number Absent = absent
+abbrev pub offset_number : Option ℕ → ℕ
+offset_number (Some bits) = min bits 4294967294
+offset_number None = absent
 
 -- No location is the Rust's: the largest number.
-abbrev pub start_number : Location → ℕ
-start_number (In start end) = start
-start_number Nowhere = 18446744073709551615
+abbrev pub start_number : Option Location → ℕ
+start_number (Some l) = l.start
+start_number None = 18446744073709551615
 
-abbrev pub end_number : Location → ℕ
-end_number (In start end) = end
-end_number Nowhere = 18446744073709551615
+abbrev pub end_number : Option Location → ℕ
+end_number (Some l) = l.end
+end_number None = 18446744073709551615
 
 -- The other way: the offset and the location that the core's numbers stand for.
-unfoldable pub offset_from : ℕ → Offset
-offset_from number = cond (eqb number absent) Absent (At number)
+unfoldable pub offset_from : ℕ → Option ℕ
+offset_from number = cond (eqb number absent) None (Some number)
 
-unfoldable pub location_from : ℕ → ℕ → Location
-location_from start end = cond (eqb start 18446744073709551615) Nowhere (In start end)
+unfoldable pub location_from : ℕ → ℕ → Option Location
+location_from start end = cond (eqb start 18446744073709551615) None (Some (record { start = start; end = end }))
 
 -- The cause of refusal 3 in one record: a present offset plus size above 16,777,216 (proofs/Meaning: it is the core's, of these numbers).
-unfoldable pub ends_past : Offset → ℕ → Bool
-ends_past (At bits) size = ltb max_bits (bits + size)
-ends_past Absent size = false
+unfoldable pub ends_past : Option ℕ → ℕ → Bool
+ends_past (Some bits) size = ltb max_bits (bits + size)
+ends_past None size = false
 
 -- The numbers of a span list, read off its records.
 abbrev pub offsets_of : List Span → List ℕ

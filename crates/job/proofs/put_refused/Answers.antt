@@ -8,7 +8,7 @@ use Rattle.job.proofs.put_refused.Goals as goal
 
 pub put_number-end-requires : goal.put_number-end-requires
 put_number-end-requires c =
-    (omega arith, omega arith, omega (arith, c.put_all-next.ensures.next, writes_length c.put_all-next.ensures, count_last 10 c.args.number c.requires.0))
+    omega (arith, c.put_all-next.ensures.next, writes_length c.put_all-next.ensures, count_last 10 c.args.number c.requires.0)
 
 pub put_all-requires : goal.put_all-requires
 put_all-requires c =

@@ -8,6 +8,3 @@ use Rattle.job.proofs.read_column.Given as goal
 
 abbrev pub invariant-loop-k : goal.invariant-loop-k
 invariant-loop-k l = (l.k ≤ length l.initial.to) × (l.to ≡ sets l.initial.to 0 (table (λ k. word l.job (l.at + 8 * k)) l.k)) × (length l.to ≡ length l.initial.to)
-
-abbrev pub decreases-loop-k : goal.decreases-loop-k
-decreases-loop-k l = length l.initial.to - l.k

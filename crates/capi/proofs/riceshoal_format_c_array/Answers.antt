@@ -1,7 +1,0 @@
--- `capi::riceshoal_format_c_array` meets its contract: what the exporter promises is returned and stored.
--- Assumes nothing.
-use Rattle.capi.proofs.Returns.{gives}
-use Rattle.capi.proofs.riceshoal_format_c_array.Goals as goal
-
-pub returns : goal.returns
-returns c = gives c.format_c_array.ensures c.give.ensures
