@@ -14,7 +14,7 @@ use borrow.Author.Tests.{eqb-true, eqb-false}
 use Rattle.output.specs.Pieces.{pieces}
 use Rattle.output.proofs.Order.{stride}
 use Rattle.output.proofs.Pieces.{pieces_none, pieces_next, pieces_append, pieces_equal, pieces_length}
-use Rattle.bitvec.specs.Bits.{bits_at, byte_at}
+use Rattle.bitvec.specs.Bits.{bits_at}
 use Rattle.bitvec.proofs.Bits.{bits_small}
 use Rattle.bitvec.proofs.Words.{bits_within, bits_cut}
 use Rattle.numbers.specs.declared.Letters.TheVariants.{Lower}

@@ -56,8 +56,15 @@ fn put_by_bytes(
         let byte = image.read_byte(BitOffset(from.0 + k * 8));
         next = rows::put_digits(out, next, kind, byte);
     }
-    let rest = count - whole * kind.per_byte();
-    put_each(out, next, image, kind.bits(), BitOffset(from.0 + whole * 8), rest)
+    let odd = count - whole * kind.per_byte();
+    put_each(
+        out,
+        next,
+        image,
+        kind.bits(),
+        BitOffset(from.0 + whole * 8),
+        odd,
+    )
 }
 
 // Stores `count` times eight digits of `width` bits each, behind the first `shift` bits of byte
@@ -141,7 +148,14 @@ fn put_aligned(
     let whole = (count / kind.per_byte()).min(most);
     let next = rows::put_bytes(out, at, kind, image, first, whole);
     let rest = count - whole * kind.per_byte();
-    put_each(out, next, image, kind.bits(), BitOffset((first + whole) * 8), rest)
+    put_each(
+        out,
+        next,
+        image,
+        kind.bits(),
+        BitOffset((first + whole) * 8),
+        rest,
+    )
 }
 
 // The byte that begins at `from`, where one does and the image does not end before it.

@@ -236,7 +236,15 @@ pub fn put_rows(
 {
     match (width, tail) {
         (1, [a]) if 8 <= count => put_fixed::<1, 1>(out, at, kind, image, first, &[*a], count),
-        (1, [a, b]) if 8 <= count => put_fixed::<1, 2>(out, at, kind, image, first, &[*a, *b], count),
+        (1, [a, b]) if 8 <= count => put_fixed::<1, 2>(
+            out,
+            at,
+            kind,
+            image,
+            first,
+            &[*a, *b],
+            count,
+        ),
         (1, _) => put_any(out, at, kind, image, first, tail, count),
         (2, [a]) => put_fixed::<2, 1>(out, at, kind, image, first, &[*a], count),
         (4, [a]) => put_fixed::<4, 1>(out, at, kind, image, first, &[*a], count),
