@@ -3,10 +3,10 @@
 // shown, so that none is tested here.
 #![tactic(auto)]
 
-ghost use Rattle.std.specs.Prelude.{[], ◌∷◌, ◌++◌, ◌+◌, ◌*◌, ◌≤◌, ◌<◌, length};
+ghost use Rattle.std.specs.Prelude.{IfSome, ◌≡◌, [], ◌∷◌, ◌++◌, ◌+◌, ◌*◌, ◌≤◌, ◌<◌, length};
 ghost use Rattle.output.specs.Writes.{Writes};
 ghost use Rattle.rows.specs.declared.ByteDigits.TheVariants.{Hex};
-ghost use Rattle.rows.specs.Rows.{digits_per_byte, byte_digits, bytes_text, slice_text, rows_text};
+ghost use Rattle.rows.specs.Rows.{digits_per_byte, digit_bits, byte_digits, bytes_text, slice_text, rows_text};
 
 use bitvec::Image;
 use numbers::Letters;
@@ -16,6 +16,40 @@ use numbers::Letters;
 pub enum ByteDigits {
     Binary,
     Hex,
+}
+
+impl ByteDigits {
+    // The digits of a number of bits, where a byte has a whole number of them and they have a
+    // function of their own.
+    pub fn with_bits(bits: usize) -> Option<ByteDigits>
+        ensures { IfSome result (λ kind. bits ≡ digit_bits kind) }
+    {
+        match bits {
+            1 => Some(ByteDigits::Binary),
+            4 => Some(ByteDigits::Hex),
+            _ => None,
+        }
+    }
+
+    // How many bits a digit has.
+    pub fn bits(self) -> usize
+        ensures { result ≡ digit_bits self }
+    {
+        match self {
+            ByteDigits::Binary => 1,
+            ByteDigits::Hex => 4,
+        }
+    }
+
+    // How many digits a byte has.
+    pub fn per_byte(self) -> usize
+        ensures { result ≡ digits_per_byte self }
+    {
+        match self {
+            ByteDigits::Binary => 8,
+            ByteDigits::Hex => 2,
+        }
+    }
 }
 
 // Stores a byte in digits.
@@ -202,7 +236,15 @@ pub fn put_rows(
 {
     match (width, tail) {
         (1, [a]) if 8 <= count => put_fixed::<1, 1>(out, at, kind, image, first, &[*a], count),
-        (1, [a, b]) if 8 <= count => put_fixed::<1, 2>(out, at, kind, image, first, &[*a, *b], count),
+        (1, [a, b]) if 8 <= count => put_fixed::<1, 2>(
+            out,
+            at,
+            kind,
+            image,
+            first,
+            &[*a, *b],
+            count,
+        ),
         (1, _) => put_any(out, at, kind, image, first, tail, count),
         (2, [a]) => put_fixed::<2, 1>(out, at, kind, image, first, &[*a], count),
         (4, [a]) => put_fixed::<4, 1>(out, at, kind, image, first, &[*a], count),

@@ -1,7 +1,7 @@
 -- `numbers::put_column` meets its contract: the fill is stored before the number, which ends the column.
 -- Assumes nothing.
 use mathlib.Core.Path.{◌≡◌}
-use Prim.Native.Nat.{ℕ, ◌+◌, ◌-◌}
+use Prim.Native.Nat.{◌+◌, ◌-◌}
 use native.Mathlib.Omega.{arith}
 use lib.ListN.{length, replicate, length-replicate}
 use Rattle.numbers.specs.Digits.{number_text, padded}

@@ -1,5 +1,4 @@
 use mathlib.Core.Path.{◌≡◌}
-use Prim.Native.Nat.{◌≤◌, ◌*◌}
 use lib.ListN.{length}
 use Rattle.output.specs.Writes.{Writes}
 use Rattle.rows.specs.Rows.{rows_text}

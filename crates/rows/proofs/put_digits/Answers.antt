@@ -1,8 +1,6 @@
 -- `rows::put_digits` meets its contract: one case for each kind of digits.
 -- Assumes nothing.
-use mathlib.Core.Path.{ap}
-use native.Mathlib.Omega.{arith}
-use Rattle.rows.specs.Rows.{digits_per_byte, byte_digits}
+use Rattle.rows.specs.Rows.{byte_digits}
 use Rattle.rows.proofs.put_digits.Goals as goal
 
 pub returns-in-Binary : goal.returns-in-Binary

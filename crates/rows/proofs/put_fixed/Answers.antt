@@ -1,10 +1,8 @@
 -- `rows::put_fixed` meets its contract: after each turn a row more is written.
 -- Assumes nothing.
 use mathlib.Core.Path.{◌≡◌, refl}
-use Prim.Native.Nat.{◌+◌, ◌*◌, ◌<◌, ◌≤◌}
+use Prim.Native.Nat.{◌+◌, ◌*◌, ◌<◌}
 use native.Mathlib.Omega.{arith}
-use lib.ListN.{length}
-use borrow.Author.Rules.{rules}
 use Rattle.output.proofs.Writes.{writes_nothing, writes_then, writes_length}
 use Rattle.rows.specs.Rows.{digits_per_byte}
 use Rattle.output.proofs.Order.{stride}
@@ -16,7 +14,6 @@ as_chunks-requires g c = (omega (arith, c.requires.few.1), c.requires.few.0)
 
 pub loop-row-init : goal.loop-row-init
 loop-row-init g c = (rw (rows_none _ _ _ _ _ _) (writes_nothing _ _), refl)
-
 
 pub put_row-next-requires : goal.put_row-next-requires
 put_row-next-requires g c =
@@ -50,8 +47,7 @@ loop-row-preserved g c =
     let w = g.row.W in
     let count = rows_count bytes a.first w a.count c.requires.few.0 c.requires.inside.1 in
     let inner : l.row-index < a.count = omega (arith, c.as_chunks.ensures.front_len, count, c.loop-row-test.true) in
-    let text = row_is a.kind bytes a.image.len a.first w a.count l.row-index c.row-item.result c.as_chunks.result.0.now c.requires.few.0 c.requires.inside.0 c.requires.inside.1 c.as_chunks.ensures.front inner c.row-item.is in
-    (
+    let text = row_is a.kind bytes a.image.len a.first w a.count l.row-index c.row-item.result c.as_chunks.result.0.now c.requires.few.0 c.requires.inside.0 c.requires.inside.1 c.as_chunks.ensures.front inner c.row-item.is in (
       rw (rows_next a.kind bytes a.image.len a.first w a.tail.now l.row-index, ← text)
           (writes_then l.invariant.0 (writes_then c.put_row-next.ensures c.put_text-next.ensures)),
       omega (arith, l.invariant.1, writes_length c.put_row-next.ensures, writes_length c.put_text-next.ensures),

@@ -1,10 +1,10 @@
 -- `rows::put_slice` meets its contract: after each turn the bytes so far are written.
 -- Assumes nothing.
 use mathlib.Core.Path.{◌≡◌, refl}
-use Prim.Native.Nat.{◌+◌, ◌*◌}
+use Prim.Native.Nat.{◌*◌}
 use native.Mathlib.Nat.{zero-add}
 use native.Mathlib.Omega.{arith}
-use lib.ListN.{length, get_or}
+use lib.ListN.{length}
 use borrow.Author.Rules.{rules}
 use Rattle.bitvec.proofs.Words.{byte_whole}
 use Rattle.output.proofs.Writes.{writes_nothing, writes_then, writes_length}
