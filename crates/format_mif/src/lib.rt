@@ -29,7 +29,7 @@ fn mif_length(count: usize, width: usize) -> usize
 // addresses differ in the last digit alone.
 fn line_head(row: usize, width: usize) -> [u8; 8]
     requires { (digit_count 16 row ≤ width) × (width ≤ 8) }
-    ensures { (take width result ≡ line_head width row) × (length result ≡ 8) }
+    ensures { take width result ≡ line_head width row }
 {
     let mut head = [b' '; 8];
     if row == 0 {
@@ -49,8 +49,15 @@ fn line_head(row: usize, width: usize) -> [u8; 8]
 
 // Stores the line of a byte whose address ends in `digit`. All eight characters of `head` are
 // stored, since a copy of one length is fast, and those behind the first `width` are stored over.
-fn put_mif_line(out: &mut [u8], at: usize, head: &[u8], width: usize, digit: u8, byte: u8) -> usize
-    requires lent { (length head.now ≡ 8) × (1 ≤ width) × (width ≤ 8) × (digit < 16) }
+fn put_mif_line(
+    out: &mut [u8],
+    at: usize,
+    head: &[u8; 8],
+    width: usize,
+    digit: u8,
+    byte: u8,
+) -> usize
+    requires small { (1 ≤ width) × (width ≤ 8) × (digit < 16) }
     requires room { at + (width + 7) ≤ length out.old }
     ensures { Writes (take width head.now ++ line_rest digit byte) out.old at out.new result }
 {
@@ -87,17 +94,17 @@ fn put_mif_row(
 }
 
 // Stores the lines of `count` bytes.
+#[tactic(auto, unfolding(bitvec::specs::Size::ceil_div))]
 fn put_mif_lines(out: &mut [u8], at: usize, image: Image, width: usize, count: usize) -> usize
     requires { (count ≤ 2 ^ 24) × (width ≡ digit_count 16 (count - 1)) × (at + length (pieces (mif_line image.bytes.now image.len width) count) ≤ length out.old) }
     ensures { Writes (pieces (mif_line image.entry.bytes.now image.entry.len width) count) out.old at out.new result }
 {
     let whole = byte_list::whole_bytes(image, count);
     let mut next = at;
-    let mut row = 0;
-    while row * 16 < count {
+    let rows = bitvec::parts(count, 16);
+    for row in 0..rows {
         let lines = (count - row * 16).min(16);
         next = put_mif_row(out, next, image, whole, width, row, lines);
-        row += 1;
     }
     next
 }

@@ -22,8 +22,8 @@ returns c =
     let head = take a.width a.head.now in
     let over = drop a.width a.head.now in
     let short = length-drop a.width a.head.now in
-    let place : a.at + a.width ≡ c.put_all.result - length over = omega (arith, short, c.put_all.ensures.next, c.requires.lent.0) in
+    let place : a.at + a.width ≡ c.put_all.result - length over = omega (arith, short, c.put_all.ensures.next, c.told-head) in
     let parts = rw (← take-append-drop a.width a.head.now) at c.put_all.ensures in
     let last = rw c.digit_char.ensures at c.put-next.ensures in
     let rest = writes_then last (writes_then c.put_all-next.ensures (writes_then c.put_byte-next.ensures c.put_all-2.ensures)) in
-    writes_over head over (line_rest a.digit a.byte) (omega (arith, short, rest_length a.digit a.byte, c.requires.lent)) parts (rw place at rest)
+    writes_over head over (line_rest a.digit a.byte) (omega (arith, short, rest_length a.digit a.byte, c.requires.small, c.told-head)) parts (rw place at rest)

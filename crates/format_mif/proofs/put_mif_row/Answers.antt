@@ -37,7 +37,7 @@ put_mif_line-next-requires c =
     let a = c.args in
     omega
     (arith, fits, l.invariant.1.next, l.invariant.2, c.requires.room, mif_line_length a.image.bytes.now a.image.len a.width (a.row * 16 + l.j), pieces_room (line a.image.bytes.now a.image.len a.width a.row) l.j a.count c.loop-j-test.true) in
-    record { lent = (c.line_head-head.ensures.1, some, search rules, search rules); room = room }
+    record { small = (some, search rules, search rules); room = room }
 
 pub loop-j-preserved : goal.loop-j-preserved
 loop-j-preserved c =
@@ -47,7 +47,7 @@ loop-j-preserved c =
     omega (arith, fits, count_some 16 (a.row * 16 + c.loop-j.j) (omega arith)) in
     let l = c.loop-j in
     let a = c.args in
-    let text = rw (c.line_head-head.ensures.0, c.byte_of-byte.ensures) at c.put_mif_line-next.ensures in (
+    let text = rw (c.line_head-head.ensures, c.byte_of-byte.ensures) at c.put_mif_line-next.ensures in (
       search rules,
       rw (pieces_next, mif_line_lem a.image.bytes.now a.image.len a.width a.row l.j (omega (arith, c.loop-j-test.true, c.requires.fits.0)) (fits) (some)) (writes_then l.invariant.1 text),
       omega (arith, l.invariant.2, writes_length c.put_mif_line-next.ensures),
