@@ -1,6 +1,6 @@
 -- Groups of whole bytes are rows of bytes, and groups from one second string to the next have the first between them.
 -- Assumes nothing.
-use mathlib.Core.Path.{◌≡◌, refl, sym, ◌∙◌}
+use mathlib.Core.Path.{◌≡◌, refl, sym, ap, ◌∙◌}
 use mathlib.Core.Bool.{Bool, true, false, cond, not, ◌&&◌}
 use mathlib.Core.List.{List, [], ◌∷◌, ◌++◌, append_assoc}
 use Prim.Native.Nat.{ℕ, suc, ◌+◌, ◌-◌, ◌*◌, ◌/◌, ◌%◌, ◌<◌, ◌≤◌}
@@ -8,7 +8,7 @@ use native.Mathlib.Omega.{arith}
 use native.Mathlib.Nat.{mul_assoc, add-mul, mul-one, mul-le-mul_left, suc-mul, mul-mod_left, add-div_right, div-add-mod'}
 use lib.Arith.{digits_mod}
 use lib.Dec.{eqb}
-use lib.ListN.{length}
+use lib.ListN.{length, length-append}
 use borrow.Author.Tests.{ne_eqb, eqb-true}
 use Rattle.output.specs.Pieces.{pieces, leading, joined}
 use Rattle.output.proofs.Joined.{joined_alike}
@@ -16,12 +16,13 @@ use Rattle.output.proofs.Pieces.{pieces_equal}
 use Rattle.rows.specs.declared.ByteDigits.{ByteDigits}
 use Rattle.rows.specs.declared.ByteDigits.TheVariants.{Binary, Hex}
 use Rattle.rows.specs.Rows.{digits_per_byte, digit_bits, bytes_text, rows_text}
-use Rattle.rows.proofs.Rows.{rows_next}
+use Rattle.rows.proofs.Rows.{rows_next, rows_length}
 use Rattle.bases.specs.Base.{base_bits}
 use Rattle.digits.proofs.Run.{bytes_run}
 use Rattle.format_list.specs.declared.FormatListOptions.{FormatListOptions}
 use Rattle.format_list.specs.List.{group_bits, group_text, between_groups}
 use Rattle.format_list.specs.Bytes.{whole_bytes, group_bytes, group_kind, alike}
+use Rattle.format_list.proofs.Lengths.{group_length}
 
 -- A group of some bytes has eight bits for each.
 pub group_bits_lem : (o : FormatListOptions) (kind : ByteDigits) (wide : ℕ) → base_bits o.base ≡ digit_bits kind → o.digits_per_group ≡ wide * digits_per_byte kind
@@ -86,6 +87,31 @@ pub alike_closed : (o : FormatListOptions) (kind : ByteDigits) (wide : ℕ) → 
 alike_closed o kind wide b d bytes len between k n =
     rw (alike_rows o kind wide b d bytes len between k n, rows_next kind bytes len (k * wide) wide between n, group_bytes_lem o kind wide b d bytes len (k + n), add-mul k n wide)
     (sym (append_assoc (rows_text kind bytes len (k * wide) wide between n) (bytes_text kind bytes len (k * wide + n * wide) wide) between))
+
+-- How long they are.
+pub alike_length : (o : FormatListOptions) (kind : ByteDigits) (wide : ℕ) → base_bits o.base ≡ digit_bits kind → o.digits_per_group ≡ wide * digits_per_byte kind
+    → (bytes : List ℕ) (len : ℕ) (between : List ℕ) (k n : ℕ)
+    → length (alike o bytes len between k n) ≡ n * (wide * digits_per_byte kind + length between) + o.digits_per_group
+alike_length o kind wide b d bytes len between k n =
+    let rows = rows_text kind bytes len (k * wide) wide between n in
+    let last = group_text o bytes len (k + n) in
+    omega (
+      arith,
+      ap length (alike_rows o kind wide b d bytes len between k n),
+      length-append rows last,
+      rows_length kind bytes len (k * wide) wide between n,
+      group_length o bytes len (k + n),
+    )
+
+-- n groups with the string behind each, and how long they are.
+pub closed_rows : (o : FormatListOptions) (kind : ByteDigits) (wide : ℕ) → base_bits o.base ≡ digit_bits kind → o.digits_per_group ≡ wide * digits_per_byte kind
+    → (bytes : List ℕ) (len : ℕ) (between : List ℕ) (k n : ℕ) → 0 < n
+    → (rows_text kind bytes len (k * wide) wide between n ≡ alike o bytes len between k (n - 1) ++ between)
+    × (length (alike o bytes len between k (n - 1)) + length between ≡ n * (wide * digits_per_byte kind + length between))
+closed_rows o kind wide b d bytes len between k n p =
+    let all : n - 1 + 1 ≡ n = omega arith in
+    let text = rw all at (alike_closed o kind wide b d bytes len between k (n - 1)) in
+    (text, omega (arith, ap length text, length-append (alike o bytes len between k (n - 1)) between, rows_length kind bytes len (k * wide) wide between n))
 
 -- Where the bytes of a group end.
 pub bytes_place : (k n wide : ℕ) → (k * wide + n * wide) * 8 ≡ (k + n) * (wide * 8)

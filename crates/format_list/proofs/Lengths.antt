@@ -1,6 +1,6 @@
 -- The lengths of the list and of what stands between its groups, which the exporters compute before they write.
 -- Assumes nothing.
-use mathlib.Core.Path.{◌≡◌, refl}
+use mathlib.Core.Path.{◌≡◌, refl, sym}
 use mathlib.Core.Bool.{Bool, true, false, cond}
 use mathlib.Core.List.{List}
 use Prim.Native.Nat.{ℕ, ◌+◌, ◌*◌, ◌%◌}
@@ -39,6 +39,12 @@ list_parts o before after between between2 bytes len =
     let groups = pieces_length (group_text o bytes len) o.digits_per_group n (λ k h. group_length o bytes len k) in
     let all = joined_length (between_groups o between between2) (group_text o bytes len) n in
     omega (arith, list_whole o before after between between2 bytes len)
+
+-- The same, as it is measured.
+pub measured : (o : FormatListOptions) (before after between between2 bytes : List ℕ) (len gaps count : ℕ)
+    → gaps ≡ length (pieces (leading (between_groups o between between2)) count) → count ≡ ceil_div len (group_bits o)
+    → length before + (gaps + count * o.digits_per_group) + length after ≡ length (list_text o before after between between2 bytes len)
+measured o before after between between2 bytes len gaps count e f = rw (e, f) (sym (list_parts o before after between between2 bytes len))
 
 -- Without a second string, each string between groups is the first.
 pub first_length : (o : FormatListOptions) (between between2 : List ℕ) (k : ℕ) → length between2 ≡ 0

@@ -26,37 +26,31 @@ returns-then-count-eq0 c =
     let none : c.args.count ≡ 0 = c.if-count-eq0.true in
     rw (none, joined_none) (writes_nothing _ _)
 
+pub invariant_of-groups : goal.invariant_of-groups
+invariant_of-groups c =
+    let options = c.requires.options in
+    record { small = (omega (arith, options.1, base_small c.args.options.base), options.2, omega (arith, options.3)) }
+
 pub put_groups-requires : goal.put_groups-requires
 put_groups-requires c =
-    let digit_groups : (let a = c.args in joined (between_groups a.options a.between.now a.between2.now) (group_text a.options a.image.bytes.now a.image.len) a.count ≡ joined (string_at c.segment-every.result a.between.now a.between2.now) (group_at a.image.bytes.now a.image.len a.width a.options.digits_per_group) a.count) = let a = c.args in
-    groups_alike a.options a.between.now a.between2.now a.image.bytes.now a.image.len a.width c.segment-every.result a.count c.segment-every.ensures c.requires.options.1 in
     let a = c.args in
-    let options = c.requires.options in record {
-      small = (
-        omega (arith, options.1, base_small a.options.base),
-        options.2,
-        omega (arith, options.3),
-        (λ p. segment_some a.between2.now options.0 p c.segment-every.ensures),
-        rw options.1 (omega (arith, c.requires.size.0)),
-      );
-      room = rw (← digit_groups) c.requires.room;
-    }
+    let text = groups_alike a.options a.strings.between.now a.strings.between2.now a.image.bytes.now a.image.len a.width c.segment.result a.count c.segment.ensures c.requires.options.1 in
+    record { small = ((λ p. segment_some a.strings.between2.now c.requires.options.0 p c.segment.ensures), rw c.requires.options.1 (omega (arith, c.requires.size.0))); room = rw (← text) c.requires.room }
 
-pub returns-then-wide-eq0 : goal.returns-then-wide-eq0
-returns-then-wide-eq0 c =
-    let digit_groups : (let a = c.args in joined (between_groups a.options a.between.now a.between2.now) (group_text a.options a.image.bytes.now a.image.len) a.count ≡ joined (string_at c.segment-every.result a.between.now a.between2.now) (group_at a.image.bytes.now a.image.len a.width a.options.digits_per_group) a.count) = let a = c.args in
-    groups_alike a.options a.between.now a.between2.now a.image.bytes.now a.image.len a.width c.segment-every.result a.count c.segment-every.ensures c.requires.options.1 in
-    rw (digit_groups) c.put_groups.ensures
+pub returns-in_default : goal.returns-in_default
+returns-in_default c =
+    let a = c.args in
+    rw (groups_alike a.options a.strings.between.now a.strings.between2.now a.image.bytes.now a.image.len a.width c.segment.result a.count c.segment.ensures c.requires.options.1)
+    c.put_groups.ensures
 
 pub put_byte_groups-requires : goal.put_byte_groups-requires
 put_byte_groups-requires c =
     let a = c.args in
     let options = c.requires.options in
     let size = c.requires.size in
-    let kind = c.group_kind.result in
-    let wide = c.group_bytes-wide.result in
+    let g = c.in-Some.group in
+    let found = c.in-Some.ensures.some in
     let some : 0 < a.count = omega (arith, c.if-count-eq0.false) in
-    let bytes : 0 < wide = omega (arith, c.if-wide-eq0.false) in
-    let known = rw (← c.group_bytes-wide.ensures, ← c.group_kind.ensures) at (bytes_digits a.width a.options.digits_per_group (rw (← c.group_bytes-wide.ensures) bytes)) in
-    let base : base_bits a.options.base ≡ digit_bits kind = sym options.1 ∙ known.0 in
-    let group = group_bits_lem a.options kind wide base known.1 in record { kind = (base, known.1, options.0); inside = (some, last_inside a.image.len (group_bits a.options) a.count group (omega arith) size.1 some, size.2, size.3, bytes, omega (arith, options.3, known.1, bytes_few kind wide)); room = c.requires.room }
+    let known = rw (← found.1, ← found.0) at (bytes_digits a.width a.options.digits_per_group (rw (← found.1) found.2)) in
+    let base : base_bits a.options.base ≡ digit_bits g.kind = sym options.1 ∙ known.0 in
+    let group = group_bits_lem a.options g.kind g.bytes base known.1 in record { kind = (base, known.1, options.0); inside = (some, last_inside a.image.len (group_bits a.options) a.count group (omega arith) size.1 some, size.2, size.3, found.2, omega (arith, options.3, known.1, bytes_few g.kind g.bytes)); room = c.requires.room }

@@ -8,7 +8,7 @@ use Rattle.format_list.specs.List.{group_text, between_groups}
 use Rattle.format_list.proofs.put_byte_groups.Given as goal
 
 abbrev pub invariant-loop-k : goal.invariant-loop-k
-invariant-loop-k l = let strings = between_groups l.options l.between l.between2 in
+invariant-loop-k l = let strings = between_groups l.options l.strings.between.now l.strings.between2.now in
     (l.k < l.count)
     × (l.k / l.size * l.size ≡ l.k)
     × Writes (joined strings (group_text l.options l.image.bytes.now l.image.len) l.k ++ leading strings l.k) l.initial.out l.at l.out l.next
