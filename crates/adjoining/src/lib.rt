@@ -2,50 +2,38 @@
 // are in order and make one block, so that no order need be found.
 #![tactic(auto)]
 
-ghost use Rattle.std.specs.Prelude.{◌≡◌, ◌≤◌, true, length};
+ghost use Rattle.std.specs.Prelude.{◌≡◌, true};
 ghost use Rattle.adjoining.specs.Adjoin.{Adjoin};
 
-use ordering::ABSENT;
-use std::num::wrapping_add_u32;
+use ordering::{ABSENT, SpanList};
 
 // Whether there is a gap behind the first span, so that the others need not be looked at.
-fn first_apart(offsets: &[u32], sizes: &[u32]) -> bool {
-    if offsets.len() < 2 {
-        return false;
+fn first_apart(spans: SpanList<'_>) -> bool {
+    match (spans.offsets, spans.sizes) {
+        ([first, second, ..], [size, ..]) => first.wrapping_add(*size) != *second,
+        _ => false,
     }
-    if sizes.len() < 2 {
-        return false;
-    }
-    wrapping_add_u32(offsets[0], sizes[0]) != offsets[1]
 }
 
-// Whether there are spans and all adjoin. All are compared, so that no test is in the loop.
-fn tested(offsets: &[u32], sizes: &[u32]) -> bool
-    requires { (length offsets.now ≤ 4096) × (length offsets.now ≡ length sizes.now) }
-    ensures { result ≡ true → Adjoin offsets.now sizes.now }
+// Whether there are spans and all adjoin. All are compared, so that no exit is in the loop.
+fn tested(spans: SpanList<'_>) -> bool
+    ensures { result ≡ true → Adjoin spans.entry.offsets.now spans.entry.sizes.now }
 {
-    if offsets.len() == 0 {
+    let SpanList { offsets, sizes } = spans;
+    if offsets.is_empty() || offsets[0] == ABSENT {
         return false;
     }
-    if offsets[0] == ABSENT {
-        return false;
-    }
-    let more = offsets.len() - 1;
-    let mut good: usize = 0;
-    for k in 0..more {
+    let mut good = true;
+    for (k, &next) in offsets[1..].iter().enumerate() {
         let end = offsets[k] as u64 + sizes[k] as u64;
-        good = good + (end == offsets[k + 1] as u64) as usize;
+        good &= end == next as u64;
     }
-    good == more
+    good
 }
 
 // The same. That spans which adjoin are found to is left free: a wrong no costs time alone.
-pub fn all_adjoin(offsets: &[u32], sizes: &[u32]) -> bool
-    requires { (length offsets.now ≤ 4096) × (length offsets.now ≡ length sizes.now) }
-    ensures { result ≡ true → Adjoin offsets.now sizes.now }
+pub fn all_adjoin(spans: SpanList<'_>) -> bool
+    ensures { result ≡ true → Adjoin spans.entry.offsets.now spans.entry.sizes.now }
 {
-    if first_apart(offsets, sizes) {
-        return false;
-    }
-    tested(offsets, sizes)
+    !first_apart(spans) && tested(spans)
 }

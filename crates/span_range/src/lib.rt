@@ -2,69 +2,63 @@
 // an absent one, and the sizes: refusal 3 of document 01.
 #![tactic(auto)]
 
-ghost use Rattle.std.specs.Prelude.{◌≡◌, ℕ, ◌<◌, length};
+ghost use Rattle.std.specs.Prelude.{◌≡◌, ℕ, ◌<◌, length, MatchOption};
 ghost use Rattle.span_range.specs.AtMost.{AtMost};
 ghost use Rattle.span_range.specs.Range.{long_list, bad_span, fault_at};
 
 use bitvec::MAX_BITS;
-use ordering::ABSENT;
+use ordering::{ABSENT, SpanList};
+
+// Half of the largest image: where no offset and no size is as large, no span ends behind the image.
+const HALF_LIMIT: u32 = 8388608;
 
 // Whether the list is long, the first cause of refusal 3.
+#[tactic(auto, unfolding(crate::specs::Range::long_list))]
 pub fn long_list(offsets: &[u32], sizes: &[u32]) -> bool
     ensures { result ≡ long_list offsets.now sizes.now }
 {
-    if 4096 < offsets.len() {
-        return true;
-    }
-    if offsets.len() == sizes.len() {
-        return false;
-    }
-    true
+    4096 < offsets.len() || offsets.len() != sizes.len()
 }
 
 // Whether a span is bad, the other cause.
+#[tactic(auto, unfolding(crate::specs::Range::bad_span))]
 fn bad_span(offset: u32, size: u32) -> bool
     ensures { result ≡ bad_span offset size }
 {
-    if offset == ABSENT {
-        return false;
-    }
-    MAX_BITS < offset as usize + size as usize
+    offset != ABSENT && MAX_BITS < offset as usize + size as usize
 }
 
 // A number that no offset and no size is above. Which one is left free; it is the bits of all of them,
 // since no test is in such a loop.
-pub fn joined(offsets: &[u32], sizes: &[u32]) -> u32
-    requires { length offsets.now ≡ length sizes.now }
-    ensures { (k : ℕ) → k < length offsets.now → AtMost offsets.now sizes.now result k }
+pub fn joined(spans: SpanList<'_>) -> u32
+    ensures { (k : ℕ) → k < length spans.entry.offsets.now → AtMost spans.entry.offsets.now spans.entry.sizes.now result k }
 {
     let mut all: u32 = 0;
-    for k in 0..offsets.len() {
-        all = all | offsets[k] | sizes[k];
+    for (&offset, &size) in spans.offsets.iter().zip(spans.sizes) {
+        all |= offset | size;
     }
     all
 }
 
-// The place of the first bad span, or their number where there is none, found span by span.
-fn first_fault(offsets: &[u32], sizes: &[u32]) -> usize
-    requires { length offsets.now ≡ length sizes.now }
-    ensures { result ≡ fault_at offsets.now sizes.now }
+// The place of the first bad span, found span by span.
+fn first_fault(spans: SpanList<'_>) -> Option<usize>
+    ensures { MatchOption result (fault_at spans.entry.offsets.now spans.entry.sizes.now ≡ length spans.entry.offsets.now) (λ p. (p < length spans.entry.offsets.now) × (p ≡ fault_at spans.entry.offsets.now spans.entry.sizes.now)) }
 {
-    for p in 0..offsets.len() {
-        if bad_span(offsets[p], sizes[p]) {
-            return p;
+    // Tried: zip with the sizes under enumerate, whose proof did not close.
+    for (p, &offset) in spans.offsets.iter().enumerate() {
+        if bad_span(offset, spans.sizes[p]) {
+            return Some(p);
         }
     }
-    offsets.len()
+    None
 }
 
 // The same: where no offset and no size is half of the limit or more, no span need be looked at alone.
-pub fn fault_at(offsets: &[u32], sizes: &[u32]) -> usize
-    requires { length offsets.now ≡ length sizes.now }
-    ensures { result ≡ fault_at offsets.now sizes.now }
+pub fn fault_at(spans: SpanList<'_>) -> Option<usize>
+    ensures { MatchOption result (fault_at spans.entry.offsets.now spans.entry.sizes.now ≡ length spans.entry.offsets.now) (λ p. (p < length spans.entry.offsets.now) × (p ≡ fault_at spans.entry.offsets.now spans.entry.sizes.now)) }
 {
-    if joined(offsets, sizes) < 8388608 {
-        return offsets.len();
+    if joined(spans) < HALF_LIMIT {
+        return None;
     }
-    first_fault(offsets, sizes)
+    first_fault(spans)
 }

@@ -1,21 +1,13 @@
 -- `span_range::joined` meets its contract: after k turns no number of the first k spans is above.
 -- Assumes nothing.
-use native.Mathlib.Omega.{arith}
-use borrow.Author.Count.{below_none}
+use Rattle.std.proofs.Common.{length, rules, length-append}
+use Rattle.std.proofs.lemmas.Slice.Zip.{zip_turn}
 use Rattle.span_range.proofs.Bits.{joined_more}
-use borrow.Author.Rules.{rules}
 use Rattle.span_range.proofs.joined.Goals as goal
 
-pub loop-k-init : goal.loop-k-init
-loop-k-init c = (search rules, below_none _)
-
-pub loop-k-preserved : goal.loop-k-preserved
-loop-k-preserved c =
-    let l = c.loop-k in
-    let a = c.args in
-    (search rules, joined_more a.offsets.now a.sizes.now l.all l.k l.invariant.1)
-
-pub returns : goal.returns
-returns c =
-    let l = c.loop-k in
-    λ k h. l.invariant.1 k (omega (arith, h))
+pub loop-offset-preserved : goal.loop-offset-preserved
+loop-offset-preserved c =
+    let l = c.loop-offset in
+    let a = c.args.spans in
+    let turn = zip_turn a.offsets.now a.sizes.now l.yielded c.into_iter-offset-iterator.result l.offset-iterator c.next.new.self c.next.result (search rules) (search rules) l.yielded_by (c.in-Some.field-0-0, c.in-Some.field-0-1) c.in-Some.is c.next.ensures.steps in
+    rw length-append (joined_more a.offsets.now a.sizes.now l.all (length l.yielded) c.in-Some.field-0-0.now c.in-Some.field-0-1.now (turn.2 0) (turn.3 0) l.invariant)

@@ -1,10 +1,6 @@
-use Prim.Native.Nat.{ℕ, ◌-◌, ◌≤◌, ◌<◌}
-use lib.ListN.{length}
+use Rattle.std.proofs.Common.{ℕ, ◌<◌, length}
 use Rattle.span_range.specs.AtMost.{AtMost}
 use Rattle.span_range.proofs.joined.Given as goal
 
-abbrev pub invariant-loop-k : goal.invariant-loop-k
-invariant-loop-k l = (l.k ≤ length l.offsets) × ((j : ℕ) → j < l.k → AtMost l.offsets l.sizes l.all j)
-
-abbrev pub decreases-loop-k : goal.decreases-loop-k
-decreases-loop-k l = length l.offsets - l.k
+abbrev pub invariant-loop-offset : goal.invariant-loop-offset
+invariant-loop-offset l = (j : ℕ) → j < length l.yielded → AtMost l.fn.spans.offsets.now l.fn.spans.sizes.now l.all j
