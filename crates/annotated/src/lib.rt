@@ -25,14 +25,14 @@ struct Listed<'a> {
     ghost few: { length spans.columns.offsets.now ≤ 4096 },
     ghost short_firmware: { length sources.firmware.now ≤ 1048576 },
     ghost short_protocol: { length sources.protocol.now ≤ 1048576 },
-    ghost sound: { span_fault options.options (lent spans.columns) sources.firmware.now sources.protocol.now ≡ length spans.columns.offsets.now },
+    ghost sound: { span_fault options.given (lent spans.columns) sources.firmware.now sources.protocol.now ≡ length spans.columns.offsets.now },
 }
 
 impl<'a> Listed<'a> {
     // The listing, where the places of the spans in order are lent, or refusal 8.
     fn list_in_order(self, places: &[u32], out: &mut [u8]) -> Export
         requires { places.now ≡ in_order self.spans.columns.offsets.now }
-        ensures { Exports (in_room (length out.old) (annotated_text self.entry.options.options self.entry.image.bytes.now self.entry.image.len (lent self.entry.spans.columns) self.entry.sources.firmware.now self.entry.sources.protocol.now)) result out.old out.new }
+        ensures { Exports (in_room (length out.old) (annotated_text self.entry.options.given self.entry.image.bytes.now self.entry.image.len (lent self.entry.spans.columns) self.entry.sources.firmware.now self.entry.sources.protocol.now)) result out.old out.new }
     {
         let options = self.options;
         let spans = self.spans;
@@ -51,7 +51,7 @@ impl<'a> Listed<'a> {
     // The listing of at most N spans, or refusal 8.
     fn list_within<const N: usize>(self, out: &mut [u8]) -> Export
         requires { (length self.spans.columns.offsets.now ≤ N) × (N ≤ 4096) }
-        ensures { Exports (in_room (length out.old) (annotated_text self.entry.options.options self.entry.image.bytes.now self.entry.image.len (lent self.entry.spans.columns) self.entry.sources.firmware.now self.entry.sources.protocol.now)) result out.old out.new }
+        ensures { Exports (in_room (length out.old) (annotated_text self.entry.options.given self.entry.image.bytes.now self.entry.image.len (lent self.entry.spans.columns) self.entry.sources.firmware.now self.entry.sources.protocol.now)) result out.old out.new }
     {
         let offsets = self.spans.columns.offsets;
         let mut places = [0u32; N];
@@ -61,7 +61,7 @@ impl<'a> Listed<'a> {
 
     // The listing, or refusal 8. For few spans less memory is set to zero.
     fn list(self, out: &mut [u8]) -> Export
-        ensures { Exports (in_room (length out.old) (annotated_text self.entry.options.options self.entry.image.bytes.now self.entry.image.len (lent self.entry.spans.columns) self.entry.sources.firmware.now self.entry.sources.protocol.now)) result out.old out.new }
+        ensures { Exports (in_room (length out.old) (annotated_text self.entry.options.given self.entry.image.bytes.now self.entry.image.len (lent self.entry.spans.columns) self.entry.sources.firmware.now self.entry.sources.protocol.now)) result out.old out.new }
     {
         if self.spans.columns.offsets.len() <= 64 {
             return self.list_within::<64>(out);
@@ -79,12 +79,12 @@ fn format_spans(
     out: &mut [u8],
 ) -> Export
     requires { length spans.columns.offsets.now ≤ 4096 }
-    ensures { Exports (listed_outcome image.entry.bytes.now image.entry.len options.options (lent spans.entry.columns) sources.entry.firmware.now sources.entry.protocol.now (length out.old)) result out.old out.new }
+    ensures { Exports (listed_outcome image.entry.bytes.now image.entry.len options.given (lent spans.entry.columns) sources.entry.firmware.now sources.entry.protocol.now (length out.old)) result out.old out.new }
 {
     if sources::bad_text(sources.firmware) || sources::bad_text(sources.protocol) {
         return Err(Refusal::SourceText);
     }
-    if let Some(place) = listing_spans::span_fault(options.options, spans.columns, sources) {
+    if let Some(place) = listing_spans::span_fault(options.given, spans.columns, sources) {
         return Err(Refusal::SpanFault(place));
     }
     let listed = Listed {

@@ -123,18 +123,19 @@ pub struct FormatAnnotatedOptions {
 // Options that are in their range, with the bits of a digit and the radix of the addresses.
 #[derive(Clone, Copy)]
 pub struct ListingOptions {
-    pub options: FormatAnnotatedOptions,
+    pub given: FormatAnnotatedOptions,
     pub width: usize,
     pub radix: Radix,
-    pub ghost in_range: { bad_annotated options ≡ false },
-    pub ghost bits: { width ≡ base_bits options.base },
+    pub ghost in_range: { bad_annotated given ≡ false },
+    pub ghost bits: { width ≡ base_bits given.base },
     pub ghost few: { (0 < width) × (width ≤ 5) },
-    pub ghost group: { (0 < options.digits_per_group) × (options.digits_per_group ≤ 64) },
-    pub ghost addresses: { radix.value ≡ options.addr_base },
+    pub ghost group: { (0 < given.digits_per_group) × (given.digits_per_group ≤ 64) },
+    pub ghost addresses: { radix.value ≡ given.addr_base },
 }
 
 // The widths of the columns: the position's byte and its bit, the logical address, and the contents.
-// That they are narrow is asked where a length is counted alone, so it is no part of the type.
+// That they are narrow is asked where a length is counted alone: as a part of the type it would be asked
+// of each caller.
 #[derive(Clone, Copy)]
 pub struct Widths {
     pub outp: usize,
@@ -157,7 +158,7 @@ impl ListingOptions {
     #[tactic(auto, using(crate::proofs::Columns::bad_base, crate::proofs::Columns::bad_other, crate::proofs::Columns::none_bad, crate::proofs::Columns::radix_inside, crate::proofs::Columns::group_inside))]
     // The options, or none where one of them is outside its range, the cause of refusal 2.
     pub fn new(options: FormatAnnotatedOptions) -> Option<ListingOptions>
-        ensures { MatchOption result (bad_annotated options ≡ true) (λ o. o.options ≡ options) }
+        ensures { MatchOption result (bad_annotated options ≡ true) (λ o. o.given ≡ options) }
     {
         let width = bases::base_bits(options.base)?;
         if out_of_range(options) {
@@ -165,7 +166,7 @@ impl ListingOptions {
         }
         let radix = Radix::new(options.addr_base as u64);
         Some(ListingOptions {
-            options,
+            given: options,
             width,
             radix,
         })
@@ -173,9 +174,9 @@ impl ListingOptions {
 
     // What the contents of a span of `size` bits ask of the width of their column.
     fn content_need(self, size: u32) -> usize
-        ensures { (result ≡ content_need self.options size) × (result ≤ 324) }
+        ensures { (result ≡ content_need self.given size) × (result ≤ 324) }
     {
-        let group = self.options.digits_per_group;
+        let group = self.given.digits_per_group;
         let digits = bitvec::parts(size as usize, self.width);
         let wide = digits + digits / group;
         if wide < 2 || (group + 1) * 5 < wide {
@@ -186,7 +187,8 @@ impl ListingOptions {
 }
 
 // How many digits a number has in the base of the addresses. Base 16, the most frequent one, has a loop
-// of its own, which divides by no variable: without it the listing misses its bar of speed.
+// of its own, which divides by no variable: with one loop for all, tried, an address of eight digits
+// takes more than twice as long.
 pub fn digit_count(value: u64, radix: u64) -> usize
     requires { 2 ≤ radix }
     ensures { result ≡ digit_count radix value }
@@ -209,7 +211,7 @@ fn title_length(radix: Radix) -> usize
 
 // The widths with one span more.
 fn wider(options: ListingOptions, widths: Widths, offset: u32, size: u32, addr: u64) -> Widths
-    ensures { (result ≡ wider options.options widths offset size addr) × (result.outp ≤ max widths.outp 64) × (result.outp_bit ≤ max widths.outp_bit 64) × (result.addr ≤ max widths.addr 64) × (result.content ≤ max widths.content 324) }
+    ensures { (result ≡ wider options.given widths offset size addr) × (result.outp ≤ max widths.outp 64) × (result.outp_bit ≤ max widths.outp_bit 64) × (result.addr ≤ max widths.addr 64) × (result.content ≤ max widths.content 324) }
 {
     let radix = options.radix.value;
     let byte = digit_count((offset / 8) as u64, radix);
@@ -229,7 +231,7 @@ fn wider(options: ListingOptions, widths: Widths, offset: u32, size: u32, addr: 
 #[tactic(auto, using(crate::proofs::Columns::widths_absent, crate::proofs::Columns::widths_present))]
 pub fn column_widths(options: ListingOptions, spans: SpanList, addrs: &[u64]) -> Widths
     requires { length addrs.now ≡ length spans.offsets.now }
-    ensures measured { result ≡ widths_of options.options spans.entry.offsets.now spans.entry.sizes.now addrs.now (length spans.entry.offsets.now) }
+    ensures measured { result ≡ widths_of options.given spans.entry.offsets.now spans.entry.sizes.now addrs.now (length spans.entry.offsets.now) }
     ensures small { Narrow result }
 {
     let title = title_length(options.radix);
@@ -237,7 +239,7 @@ pub fn column_widths(options: ListingOptions, spans: SpanList, addrs: &[u64]) ->
         outp: 2,
         outp_bit: 1,
         addr: title,
-        content: options.options.digits_per_group,
+        content: options.given.digits_per_group,
     };
     for (p, &offset) in spans.offsets.iter().enumerate() {
         if offset != ABSENT {
@@ -265,25 +267,25 @@ fn put_title(out: &mut [u8], at: usize, radix: Radix, width: usize) -> usize
 // The length of the heading.
 pub fn heading_length(options: ListingOptions, widths: Widths) -> usize
     requires { Narrow widths }
-    ensures { (result ≡ length (heading options.options widths)) × (result ≤ 700) }
+    ensures { (result ≡ length (heading options.given widths)) × (result ≤ 700) }
 {
     let outp = (widths.outp + widths.outp_bit + 1).max(4);
     let addr = widths.addr.max(title_length(options.radix));
-    let base = numbers::digit_count(options.options.base as u64, 10);
+    let base = numbers::digit_count(options.given.base as u64, 10);
     21 + outp + addr + base
 }
 
 // Stores the heading.
 pub fn put_heading(out: &mut [u8], options: ListingOptions, widths: Widths) -> usize
-    requires { length (heading options.options widths) ≤ length out.old }
-    ensures { Writes (heading options.options widths) out.old 0 out.new result }
+    requires { length (heading options.given widths) ≤ length out.old }
+    ensures { Writes (heading options.given widths) out.old 0 out.new result }
 {
     let mut next = output::put(out, 0, b' ');
     next = numbers::put_right(out, next, b"outp", widths.outp + widths.outp_bit + 1);
     next = output::put_all(out, next, b" | ");
     next = put_title(out, next, options.radix, widths.addr);
     next = output::put_all(out, next, b" | data (base ");
-    let base = options.options.base as u64;
+    let base = options.given.base as u64;
     next = numbers::put_number(out, next, Letters::Lower, base, Radix::DECIMAL);
     output::put_all(out, next, b")\n\n")
 }

@@ -176,11 +176,11 @@ fn put_any(
     offset: u32,
     size: u32,
 ) -> usize
-    requires { at + length (contents options.options image.bytes.now image.len offset size) ≤ length out.old }
-    ensures { Writes (contents options.options image.entry.bytes.now image.entry.len offset size) out.old at out.new result }
+    requires { at + length (contents options.given image.bytes.now image.len offset size) ≤ length out.old }
+    ensures { Writes (contents options.given image.entry.bytes.now image.entry.len offset size) out.old at out.new result }
 {
     let width = options.width;
-    let group = options.options.digits_per_group;
+    let group = options.given.digits_per_group;
     let count = bitvec::parts(size as usize, width);
     let start = offset as usize;
     let from = BitOffset(start);
@@ -206,9 +206,9 @@ fn put_any(
 // Whether the contents are pairs of hexadecimal digits, the most frequent ones, which have functions of
 // their own.
 fn paired(options: ListingOptions) -> bool
-    ensures { result ≡ true → (options.options.base ≡ 16) × (options.options.digits_per_group ≡ 2) }
+    ensures { result ≡ true → (options.given.base ≡ 16) × (options.given.digits_per_group ≡ 2) }
 {
-    options.options.base == 16 && options.options.digits_per_group == 2
+    options.given.base == 16 && options.given.digits_per_group == 2
 }
 
 // Whether `count` hexadecimal digits from `from` on are some, and the byte of the last pair is within the
@@ -265,8 +265,8 @@ pub fn put_contents(
     offset: u32,
     size: u32,
 ) -> usize
-    requires { at + length (contents options.options image.bytes.now image.len offset size) ≤ length out.old }
-    ensures { Writes (contents options.options image.entry.bytes.now image.entry.len offset size) out.old at out.new result }
+    requires { at + length (contents options.given image.bytes.now image.len offset size) ≤ length out.old }
+    ensures { Writes (contents options.given image.entry.bytes.now image.entry.len offset size) out.old at out.new result }
 {
     if paired(options) {
         let start = offset as usize;
@@ -289,10 +289,10 @@ fn spaced_length(size: u32, width: usize, group: usize) -> usize
 
 // The length of the contents of a span.
 pub fn contents_length(options: ListingOptions, size: u32) -> usize
-    ensures { ((bytes : List ℕ) (len offset : ℕ) → length (contents options.options bytes len offset size) ≡ result) × (result < 2 ^ 34) }
+    ensures { ((bytes : List ℕ) (len offset : ℕ) → length (contents options.given bytes len offset size) ≡ result) × (result < 2 ^ 34) }
 {
     if paired(options) {
         return spaced_length(size, 4, 2);
     }
-    spaced_length(size, options.width, options.options.digits_per_group)
+    spaced_length(size, options.width, options.given.digits_per_group)
 }

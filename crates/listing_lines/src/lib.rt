@@ -16,7 +16,7 @@ use numbers::{Letters, Radix};
 use ordering::ABSENT;
 
 // Stores a number that fits in a width, filled with spaces on its left to it. Base 16, the most frequent
-// one, has a loop of its own, which divides by no variable.
+// one, has a loop of its own, as in `listing::digit_count`.
 fn put_number(out: &mut [u8], at: usize, value: u64, radix: Radix, width: usize) -> usize
     requires { (digit_count radix.value value ≤ width) × (at + width ≤ length out.old) }
     ensures { Writes (padded 32 width (number_text Lower radix.value value)) out.old at out.new result }
@@ -37,8 +37,8 @@ fn put_place(
     number: u32,
     dashes: &[u8],
 ) -> usize
-    requires { NumberFits options.options width offset number × (at + length (place options.options width offset number dashes.now) ≤ length out.old) }
-    ensures { Writes (place options.options width offset number dashes.now) out.old at out.new result }
+    requires { NumberFits options.given width offset number × (at + length (place options.given width offset number dashes.now) ≤ length out.old) }
+    ensures { Writes (place options.given width offset number dashes.now) out.old at out.new result }
 {
     if offset == ABSENT {
         return numbers::put_right(out, at, dashes, width);
@@ -54,8 +54,8 @@ fn place_length(
     number: u32,
     dashes: usize,
 ) -> usize
-    requires { NumberFits options.options width offset number × (width ≤ 516) × (dashes ≤ 2) }
-    ensures { ((t : List ℕ) → length t ≡ dashes → length (place options.options width offset number t) ≡ result) × (result ≤ 516) }
+    requires { NumberFits options.given width offset number × (width ≤ 516) × (dashes ≤ 2) }
+    ensures { ((t : List ℕ) → length t ≡ dashes → length (place options.given width offset number t) ≡ result) × (result ≤ 516) }
 {
     if offset == ABSENT {
         return width.max(dashes);
@@ -71,8 +71,8 @@ fn put_position(
     widths: Widths,
     offset: u32,
 ) -> usize
-    requires { NumberFits options.options widths.outp offset (offset / 8) × NumberFits options.options widths.outp_bit offset (offset % 8) × (at + length (position options.options widths offset) ≤ length out.old) }
-    ensures { Writes (position options.options widths offset) out.old at out.new result }
+    requires { NumberFits options.given widths.outp offset (offset / 8) × NumberFits options.given widths.outp_bit offset (offset % 8) × (at + length (position options.given widths offset) ≤ length out.old) }
+    ensures { Writes (position options.given widths offset) out.old at out.new result }
 {
     let mut next = output::put(out, at, b' ');
     next = put_place(out, next, options, widths.outp, offset, offset / 8, b"--");
@@ -90,8 +90,8 @@ fn put_position(
 
 // The length of the position of a span.
 fn position_length(options: ListingOptions, widths: Widths, offset: u32) -> usize
-    requires { NumberFits options.options widths.outp offset (offset / 8) × NumberFits options.options widths.outp_bit offset (offset % 8) × Narrow widths }
-    ensures { (result ≡ length (position options.options widths offset)) × (result ≤ 2000) }
+    requires { NumberFits options.given widths.outp offset (offset / 8) × NumberFits options.given widths.outp_bit offset (offset % 8) × Narrow widths }
+    ensures { (result ≡ length (position options.given widths offset)) × (result ≤ 2000) }
 {
     let byte = place_length(options, widths.outp, offset, offset / 8, 2);
     let bit = place_length(options, widths.outp_bit, offset, offset % 8, 1);
@@ -107,8 +107,8 @@ fn put_address(
     offset: u32,
     addr: u64,
 ) -> usize
-    requires { NumberFits options.options width offset addr × (at + max width (digit_count options.options.addr_base addr) ≤ length out.old) }
-    ensures { Writes (padded 32 width (number_text Lower options.options.addr_base addr)) out.old at out.new result }
+    requires { NumberFits options.given width offset addr × (at + max width (digit_count options.given.addr_base addr) ≤ length out.old) }
+    ensures { Writes (padded 32 width (number_text Lower options.given.addr_base addr)) out.old at out.new result }
 {
     if offset == ABSENT {
         return numbers::put_padded(out, at, Letters::Lower, addr, options.radix, b' ', width);
@@ -118,8 +118,8 @@ fn put_address(
 
 // The length of the logical address of a span: that of its column, but where the span has no offset.
 fn address_length(options: ListingOptions, width: usize, offset: u32, addr: u64) -> usize
-    requires { NumberFits options.options width offset addr }
-    ensures { result ≡ max width (digit_count options.options.addr_base addr) }
+    requires { NumberFits options.given width offset addr }
+    ensures { result ≡ max width (digit_count options.given.addr_base addr) }
 {
     if offset == ABSENT {
         let digits = listing::digit_count(addr, options.radix.value);
@@ -138,8 +138,8 @@ fn put_column(
     offset: u32,
     size: u32,
 ) -> usize
-    requires { at + length (at_left width (contents options.options image.bytes.now image.len offset size)) ≤ length out.old }
-    ensures { Writes (at_left width (contents options.options image.entry.bytes.now image.entry.len offset size)) out.old at out.new result }
+    requires { at + length (at_left width (contents options.given image.bytes.now image.len offset size)) ≤ length out.old }
+    ensures { Writes (at_left width (contents options.given image.entry.bytes.now image.entry.len offset size)) out.old at out.new result }
 {
     let next = listing_contents::put_contents(out, at, image, options, offset, size);
     let free = width.saturating_sub(listing_contents::contents_length(options, size));
@@ -153,8 +153,8 @@ pub fn line_length(
     span: ListedSpan,
     excerpt: usize,
 ) -> usize
-    requires { Narrow widths × (excerpt ≤ 1048576) × SpanFits options.options widths span.offset span.addr }
-    ensures { ((bytes : List ℕ) (len : ℕ) (t : List ℕ) → length t ≡ excerpt → length (line_text options.options widths bytes len span.offset span.size span.addr t) ≡ result) × (result < 2 ^ 35) }
+    requires { Narrow widths × (excerpt ≤ 1048576) × SpanFits options.given widths span.offset span.addr }
+    ensures { ((bytes : List ℕ) (len : ℕ) (t : List ℕ) → length t ≡ excerpt → length (line_text options.given widths bytes len span.offset span.size span.addr t) ≡ result) × (result < 2 ^ 35) }
 {
     let position = position_length(options, widths, span.offset);
     let address = address_length(options, widths.addr, span.offset, span.addr);
@@ -174,8 +174,8 @@ pub fn put_line(
     span: ListedSpan,
     excerpt: &[u8],
 ) -> usize
-    requires { SpanFits options.options widths span.offset span.addr × (at + length (line_text options.options widths image.bytes.now image.len span.offset span.size span.addr excerpt.now) ≤ length out.old) }
-    ensures { Writes (line_text options.options widths image.entry.bytes.now image.entry.len span.offset span.size span.addr excerpt.now) out.old at out.new result }
+    requires { SpanFits options.given widths span.offset span.addr × (at + length (line_text options.given widths image.bytes.now image.len span.offset span.size span.addr excerpt.now) ≤ length out.old) }
+    ensures { Writes (line_text options.given widths image.entry.bytes.now image.entry.len span.offset span.size span.addr excerpt.now) out.old at out.new result }
 {
     let mut next = put_position(out, at, options, widths, span.offset);
     next = output::put_all(out, next, b" | ");

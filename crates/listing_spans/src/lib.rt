@@ -76,11 +76,11 @@ fn span_length(
     span: ListedSpan,
     sources: Sources,
 ) -> usize
-    requires narrow { Narrow widths × SpanFits options.options widths span.offset span.addr }
-    requires sound { (length sources.firmware.now ≤ 1048576) × (length sources.protocol.now ≤ 1048576) × (faulty options.options sources.firmware.now sources.protocol.now span.offset span.size span.location.file span.location.start span.location.end ≡ false) }
-    ensures { ((bytes : List ℕ) (len : ℕ) → length (span_line options.options widths bytes len span.offset span.size span.addr (excerpt_of sources.entry.firmware.now sources.entry.protocol.now span.location.file span.location.start span.location.end)) ≡ result) × (result < 2 ^ 35) }
+    requires narrow { Narrow widths × SpanFits options.given widths span.offset span.addr }
+    requires sound { (length sources.firmware.now ≤ 1048576) × (length sources.protocol.now ≤ 1048576) × (faulty options.given sources.firmware.now sources.protocol.now span.offset span.size span.location.file span.location.start span.location.end ≡ false) }
+    ensures { ((bytes : List ℕ) (len : ℕ) → length (span_line options.given widths bytes len span.offset span.size span.addr (excerpt_of sources.entry.firmware.now sources.entry.protocol.now span.location.file span.location.start span.location.end)) ≡ result) × (result < 2 ^ 35) }
 {
-    if shown(options.options, span.size) {
+    if shown(options.given, span.size) {
         let Location { file, start, end } = span.location;
         let text = sources.excerpt(file, start as usize, end as usize);
         return listing_lines::line_length(options, widths, span, text.len());
@@ -98,11 +98,11 @@ fn put_span(
     span: ListedSpan,
     sources: Sources,
 ) -> usize
-    requires sound { SpanFits options.options widths span.offset span.addr × (faulty options.options sources.firmware.now sources.protocol.now span.offset span.size span.location.file span.location.start span.location.end ≡ false) }
-    requires room { at + length (span_line options.options widths image.bytes.now image.len span.offset span.size span.addr (excerpt_of sources.firmware.now sources.protocol.now span.location.file span.location.start span.location.end)) ≤ length out.old }
-    ensures { Writes (span_line options.options widths image.entry.bytes.now image.entry.len span.offset span.size span.addr (excerpt_of sources.entry.firmware.now sources.entry.protocol.now span.location.file span.location.start span.location.end)) out.old at out.new result }
+    requires sound { SpanFits options.given widths span.offset span.addr × (faulty options.given sources.firmware.now sources.protocol.now span.offset span.size span.location.file span.location.start span.location.end ≡ false) }
+    requires room { at + length (span_line options.given widths image.bytes.now image.len span.offset span.size span.addr (excerpt_of sources.firmware.now sources.protocol.now span.location.file span.location.start span.location.end)) ≤ length out.old }
+    ensures { Writes (span_line options.given widths image.entry.bytes.now image.entry.len span.offset span.size span.addr (excerpt_of sources.entry.firmware.now sources.entry.protocol.now span.location.file span.location.start span.location.end)) out.old at out.new result }
 {
-    if shown(options.options, span.size) {
+    if shown(options.given, span.size) {
         let Location { file, start, end } = span.location;
         let text = sources.excerpt(file, start as usize, end as usize);
         return listing_lines::put_line(out, at, image, options, widths, span, text);
@@ -118,10 +118,10 @@ pub fn lines_length(
     spans: ListedSpans,
     sources: Sources,
 ) -> usize
-    requires narrow { Narrow widths × (widths ≡ widths_of options.options spans.columns.offsets.now spans.columns.sizes.now spans.columns.addrs.now (length spans.columns.offsets.now)) }
-    requires sound { (length sources.firmware.now ≤ 1048576) × (length sources.protocol.now ≤ 1048576) × (span_fault options.options (lent spans.columns) sources.firmware.now sources.protocol.now ≡ length spans.columns.offsets.now) }
+    requires narrow { Narrow widths × (widths ≡ widths_of options.given spans.columns.offsets.now spans.columns.sizes.now spans.columns.addrs.now (length spans.columns.offsets.now)) }
+    requires sound { (length sources.firmware.now ≤ 1048576) × (length sources.protocol.now ≤ 1048576) × (span_fault options.given (lent spans.columns) sources.firmware.now sources.protocol.now ≡ length spans.columns.offsets.now) }
     requires places { (length places.now ≤ 4096) × Each (λ p. p < length spans.columns.offsets.now) places.now }
-    ensures { ((bytes : List ℕ) (len : ℕ) → length (flat_map (line_at options.options widths bytes len (lent spans.entry.columns) sources.entry.firmware.now sources.entry.protocol.now) places.now) ≡ result) × (result ≤ 2 ^ 47) }
+    ensures { ((bytes : List ℕ) (len : ℕ) → length (flat_map (line_at options.given widths bytes len (lent spans.entry.columns) sources.entry.firmware.now sources.entry.protocol.now) places.now) ≡ result) × (result ≤ 2 ^ 47) }
 {
     let mut needed = 0;
     for &place in places {
@@ -142,11 +142,11 @@ pub fn put_lines(
     spans: ListedSpans,
     sources: Sources,
 ) -> usize
-    requires widths { widths ≡ widths_of options.options spans.columns.offsets.now spans.columns.sizes.now spans.columns.addrs.now (length spans.columns.offsets.now) }
-    requires sound { span_fault options.options (lent spans.columns) sources.firmware.now sources.protocol.now ≡ length spans.columns.offsets.now }
+    requires widths { widths ≡ widths_of options.given spans.columns.offsets.now spans.columns.sizes.now spans.columns.addrs.now (length spans.columns.offsets.now) }
+    requires sound { span_fault options.given (lent spans.columns) sources.firmware.now sources.protocol.now ≡ length spans.columns.offsets.now }
     requires places { Each (λ p. p < length spans.columns.offsets.now) places.now }
-    requires room { at + length (flat_map (line_at options.options widths image.bytes.now image.len (lent spans.columns) sources.firmware.now sources.protocol.now) places.now) ≤ length out.old }
-    ensures { Writes (flat_map (line_at options.options widths image.entry.bytes.now image.entry.len (lent spans.entry.columns) sources.entry.firmware.now sources.entry.protocol.now) places.now) out.old at out.new result }
+    requires room { at + length (flat_map (line_at options.given widths image.bytes.now image.len (lent spans.columns) sources.firmware.now sources.protocol.now) places.now) ≤ length out.old }
+    ensures { Writes (flat_map (line_at options.given widths image.entry.bytes.now image.entry.len (lent spans.entry.columns) sources.entry.firmware.now sources.entry.protocol.now) places.now) out.old at out.new result }
 {
     let mut next = at;
     for &place in places {

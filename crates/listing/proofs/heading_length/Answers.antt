@@ -9,14 +9,14 @@ use Rattle.listing.proofs.Columns.{heading_parts}
 use Rattle.listing.proofs.heading_length.Goals as goal
 
 pub overflow_add-result-3 : goal.overflow_add-result-3
-overflow_add-result-3 c = omega (arith, c.max-outp.ensures, c.max-addr.ensures, c.title_length.ensures.1, c.requires, c.digit_count-base.ensures, count_small 10 (omega arith) 63 c.args.options.options.base (omega arith))
+overflow_add-result-3 c = omega (arith, c.max-outp.ensures, c.max-addr.ensures, c.title_length.ensures.1, c.requires, c.digit_count-base.ensures, count_small 10 (omega arith) 63 c.args.options.given.base (omega arith))
 
 pub returns : goal.returns
 returns c =
     let o = c.args.options in
-    let parts = heading_parts o.options c.args.widths in
+    let parts = heading_parts o.given c.args.widths in
     let title = ap (λ x. length (addr_title x)) o.addresses in
-    let small = count_small 10 (omega arith) 63 o.options.base (omega arith) in (
+    let small = count_small 10 (omega arith) 63 o.given.base (omega arith) in (
       omega (arith, parts, title, c.max-outp.ensures, c.max-addr.ensures, c.title_length.ensures.0, c.digit_count-base.ensures),
       omega (arith, c.max-outp.ensures, c.max-addr.ensures, c.title_length.ensures.1, c.requires, c.digit_count-base.ensures),
     )

@@ -22,43 +22,43 @@ outp_length w = padded_length 32 (w.outp + w.outp_bit + 1) (ascii "outp")
 title_length : (o : ListingOptions) (w : Widths) → length (at_right w.addr (addr_title o.radix.value)) ≡ max w.addr (length (addr_title o.radix.value))
 title_length o w = padded_length 32 w.addr (addr_title o.radix.value)
 
-title_place : (o : ListingOptions) (w : Widths) → max w.addr (length (addr_title o.options.addr_base)) ≡ max w.addr (length (addr_title o.radix.value))
+title_place : (o : ListingOptions) (w : Widths) → max w.addr (length (addr_title o.given.addr_base)) ≡ max w.addr (length (addr_title o.radix.value))
 title_place o w = rw o.addresses refl
 
 pub put-next-requires : goal.put-next-requires
-put-next-requires c = omega (arith, heading_parts c.args.options.options c.args.widths)
+put-next-requires c = omega (arith, heading_parts c.args.options.given c.args.widths)
 
 pub put_right-next-requires : goal.put_right-next-requires
-put_right-next-requires c = omega (arith, heading_parts c.args.options.options c.args.widths)
+put_right-next-requires c = omega (arith, heading_parts c.args.options.given c.args.widths)
 
 pub put_all-next-requires : goal.put_all-next-requires
-put_all-next-requires c = omega (arith, heading_parts c.args.options.options c.args.widths, outp_length c.args.widths)
+put_all-next-requires c = omega (arith, heading_parts c.args.options.given c.args.widths, outp_length c.args.widths)
 
 pub overflow_add-widths : goal.overflow_add-widths
-overflow_add-widths c = omega (arith, heading_parts c.args.options.options c.args.widths)
+overflow_add-widths c = omega (arith, heading_parts c.args.options.given c.args.widths)
 
 pub overflow_add-widths-2 : goal.overflow_add-widths-2
-overflow_add-widths-2 c = omega (arith, heading_parts c.args.options.options c.args.widths)
+overflow_add-widths-2 c = omega (arith, heading_parts c.args.options.given c.args.widths)
 
 pub put_title-next-requires : goal.put_title-next-requires
 put_title-next-requires c =
     let a = c.args in
-    rw a.options.addresses (omega (arith, heading_parts a.options.options a.widths, outp_length a.widths))
+    rw a.options.addresses (omega (arith, heading_parts a.options.given a.widths, outp_length a.widths))
 
 pub put_all-next-requires-2 : goal.put_all-next-requires-2
 put_all-next-requires-2 c =
     let a = c.args in
-    omega (arith, heading_parts a.options.options a.widths, outp_length a.widths, title_place a.options a.widths, title_length a.options a.widths)
+    omega (arith, heading_parts a.options.given a.widths, outp_length a.widths, title_place a.options a.widths, title_length a.options a.widths)
 
 pub put_number-next-requires : goal.put_number-next-requires
 put_number-next-requires c =
     let a = c.args in
-    omega (arith, heading_parts a.options.options a.widths, outp_length a.widths, title_place a.options a.widths, title_length a.options a.widths)
+    omega (arith, heading_parts a.options.given a.widths, outp_length a.widths, title_place a.options a.widths, title_length a.options a.widths)
 
 pub put_all-requires : goal.put_all-requires
 put_all-requires c =
     let a = c.args in
-    omega (arith, heading_parts a.options.options a.widths, outp_length a.widths, title_place a.options a.widths, title_length a.options a.widths, number_length Lower 10 a.options.options.base)
+    omega (arith, heading_parts a.options.given a.widths, outp_length a.widths, title_place a.options a.widths, title_length a.options a.widths, number_length Lower 10 a.options.given.base)
 
 pub returns : goal.returns
 unfolding heading

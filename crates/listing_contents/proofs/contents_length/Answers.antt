@@ -11,8 +11,8 @@ returns-then-paired c =
     let o = c.args.options in
     let kind = c.paired.ensures c.if-paired.true in (
       λ bytes len offset.
-          contents_length o.options bytes len offset c.args.size o.group.0
-          ∙ rw (c.spaced_length.ensures.0, paired_digits o.options c.args.size kind.0, kind.1),
+          contents_length o.given bytes len offset c.args.size o.group.0
+          ∙ rw (c.spaced_length.ensures.0, paired_digits o.given c.args.size kind.0, kind.1),
       c.spaced_length.ensures.1,
     )
 
@@ -21,7 +21,7 @@ unfolding content_digits
 returns c =
     let o = c.args.options in (
       λ bytes len offset.
-          contents_length o.options bytes len offset c.args.size o.group.0
+          contents_length o.given bytes len offset c.args.size o.group.0
           ∙ rw (c.spaced_length-2.ensures.0, o.bits),
       c.spaced_length-2.ensures.1,
     )

@@ -22,10 +22,10 @@ record Counted (w g count n : ℕ) : Type 0 where
   all : count * w < 2 ^ 33
 
 counted : (o : ListingOptions) (size count rest n : ℕ) → size < 2 ^ 32
-    → count ≡ ceil_div size o.width → rest ≡ count - 1 → n ≤ rest / o.options.digits_per_group
-    → Counted o.width o.options.digits_per_group count n
+    → count ≡ ceil_div size o.width → rest ≡ count - 1 → n ≤ rest / o.given.digits_per_group
+    → Counted o.width o.given.digits_per_group count n
 counted o size count rest n s f r l =
-    let g = o.options.digits_per_group in
+    let g = o.given.digits_per_group in
     let digits : n * g ≤ count = omega (arith, mul-le-mul_right g l, div-mul-le_self rest g) in
     record {
       digits = digits;
@@ -35,21 +35,21 @@ counted o size count rest n s f r l =
 
 -- the contents are the groups and the digits behind them
 parts_of : (o : ListingOptions) (bytes : List ℕ) (len offset size count rest n : ℕ)
-    → count ≡ ceil_div size o.width → rest ≡ count - 1 → n ≤ rest / o.options.digits_per_group
-    → (0 < n → offset + n * (o.options.digits_per_group * o.width) ≤ len)
-    → (let g = o.options.digits_per_group in
+    → count ≡ ceil_div size o.width → rest ≡ count - 1 → n ≤ rest / o.given.digits_per_group
+    → (0 < n → offset + n * (o.given.digits_per_group * o.width) ≤ len)
+    → (let g = o.given.digits_per_group in
     let w = o.width in
-    contents o.options bytes len offset size ≡ groups bytes len w g offset n ++ spaced bytes len w g (offset + n * (g * w)) (count - n * g))
+    contents o.given bytes len offset size ≡ groups bytes len w g offset n ++ spaced bytes len w g (offset + n * (g * w)) (count - n * g))
 unfolding contents content_digits spaced
 parts_of o bytes len offset size count rest n f r l h =
-    let whole : contents o.options bytes len offset size ≡ spaced bytes len o.width o.options.digits_per_group offset count = rw (f, o.bits) in
-    whole ∙ groups_parts bytes len o.width o.options.digits_per_group offset n count o.group.0 (rw r at l) h
+    let whole : contents o.given bytes len offset size ≡ spaced bytes len o.width o.given.digits_per_group offset count = rw (f, o.bits) in
+    whole ∙ groups_parts bytes len o.width o.given.digits_per_group offset n count o.group.0 (rw r at l) h
 
 pub put_groups-next-requires : goal.put_groups-next-requires
 put_groups-next-requires c =
     let a = c.args in
     let w = a.options.width in
-    let g = a.options.options.digits_per_group in
+    let g = a.options.given.digits_per_group in
     let n = c.groups_inside-whole.result in
     let inside = c.groups_inside-whole.ensures in
     let parts = parts_of a.options a.image.bytes.now a.image.len a.offset a.size _ _ n c.parts-count.ensures c.saturating_sub.ensures inside.0 (λ h. (inside.1 h).0) in
@@ -84,7 +84,7 @@ pub put_last-requires : goal.put_last-requires
 put_last-requires c =
     let a = c.args in
     let w = a.options.width in
-    let g = a.options.options.digits_per_group in
+    let g = a.options.given.digits_per_group in
     let n = c.groups_inside-whole.result in
     let count = c.parts-count.result in
     let inside = c.groups_inside-whole.ensures in
@@ -102,5 +102,5 @@ returns c =
     let a = c.args in
     let inside = c.groups_inside-whole.ensures in
     let parts = parts_of a.options a.image.bytes.now a.image.len a.offset a.size _ _ _ c.parts-count.ensures c.saturating_sub.ensures inside.0 (λ h. (inside.1 h).0) in
-    let place = mul_assoc c.groups_inside-whole.result a.options.options.digits_per_group a.options.width in
+    let place = mul_assoc c.groups_inside-whole.result a.options.given.digits_per_group a.options.width in
     rw parts (writes_then c.put_groups-next.ensures (rw place at c.put_last.ensures))

@@ -15,12 +15,12 @@ put_pairs-requires c =
     let a = c.args in
     let kind = c.paired.ensures c.if-paired.true in
     let inside = c.pairs_inside.ensures c.if-pairs_inside.true in
-    let same = paired_contents a.options.options a.image.bytes.now a.image.len a.offset a.size kind.0 kind.1 in
+    let same = paired_contents a.options.given a.image.bytes.now a.image.len a.offset a.size kind.0 kind.1 in
     record { inside = (omega arith, inside.0, inside.1, inside.2); room = rw (c.parts-count.ensures, ← same) c.requires }
 
 pub returns-then-pairs_inside : goal.returns-then-pairs_inside
 returns-then-pairs_inside c =
     let a = c.args in
     let kind = c.paired.ensures c.if-paired.true in
-    let same = paired_contents a.options.options a.image.bytes.now a.image.len a.offset a.size kind.0 kind.1 in
+    let same = paired_contents a.options.given a.image.bytes.now a.image.len a.offset a.size kind.0 kind.1 in
     rw (same, ← c.parts-count.ensures) c.put_pairs.ensures

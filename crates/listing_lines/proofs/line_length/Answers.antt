@@ -9,8 +9,8 @@ use Rattle.listing_lines.proofs.Lines.{line_parts}
 use Rattle.listing_lines.proofs.line_length.Goals as goal
 
 -- the digits of an address
-few : (o : ListingOptions) (address : ℕ) → address < 2 ^ 64 → digit_count o.options.addr_base address ≤ 64
-few o address h = count_small o.options.addr_base (omega (arith, o.addresses, o.radix.in_range)) 63 address (omega (arith, h))
+few : (o : ListingOptions) (address : ℕ) → address < 2 ^ 64 → digit_count o.given.addr_base address ≤ 64
+few o address h = count_small o.given.addr_base (omega (arith, o.addresses, o.radix.in_range)) 63 address (omega (arith, h))
 
 pub position_length-position-requires : goal.position_length-position-requires
 position_length-position-requires c = (c.requires.2.byte_fits, c.requires.2.bit_fits, c.requires.0)
@@ -42,6 +42,6 @@ pub returns : goal.returns
 returns c =
     let a = c.args in (
       λ bytes len t e.
-          omega (arith, e, line_parts a.options.options a.widths bytes len a.span.offset a.span.size a.span.addr t, c.position_length-position.ensures.0, c.address_length-address.ensures, c.max-content.ensures, c.contents_length.ensures.0 bytes len a.span.offset),
+          omega (arith, e, line_parts a.options.given a.widths bytes len a.span.offset a.span.size a.span.addr t, c.position_length-position.ensures.0, c.address_length-address.ensures, c.max-content.ensures, c.contents_length.ensures.0 bytes len a.span.offset),
       omega (arith, few a.options a.span.addr (omega arith), c.position_length-position.ensures.1, c.address_length-address.ensures, c.max-content.ensures, c.contents_length.ensures.1, c.requires.0, c.requires.1),
     )

@@ -20,6 +20,6 @@ overflow_add-result-2 c = record { fits = omega (arith, c.place_length-byte.ensu
 
 pub returns : goal.returns
 returns c = (
-  omega (arith, position_parts c.args.options.options c.args.widths c.args.offset, c.place_length-byte.ensures.0 (ascii "--") refl, c.place_length-bit.ensures.0 (ascii "-") refl),
+  omega (arith, position_parts c.args.options.given c.args.widths c.args.offset, c.place_length-byte.ensures.0 (ascii "--") refl, c.place_length-bit.ensures.0 (ascii "-") refl),
   omega (arith, c.place_length-byte.ensures.1, c.place_length-bit.ensures.1),
 )

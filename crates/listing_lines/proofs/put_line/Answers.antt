@@ -30,50 +30,50 @@ wide o width address = omega (arith, padded_length 32 width (number_text Lower o
 pub put_position-next-requires : goal.put_position-next-requires
 put_position-next-requires c =
     let a = c.args in
-    let room = fits a.options.options a.widths a.image.bytes.now a.image.len a.span.offset a.span.size a.span.addr a.excerpt.now _ _ c.requires.1 in
+    let room = fits a.options.given a.widths a.image.bytes.now a.image.len a.span.offset a.span.size a.span.addr a.excerpt.now _ _ c.requires.1 in
     (c.requires.0.byte_fits, c.requires.0.bit_fits, omega arith)
 
 pub put_all-next-requires : goal.put_all-next-requires
 put_all-next-requires c =
     let a = c.args in
-    let room = fits a.options.options a.widths a.image.bytes.now a.image.len a.span.offset a.span.size a.span.addr a.excerpt.now _ _ c.requires.1 in
+    let room = fits a.options.given a.widths a.image.bytes.now a.image.len a.span.offset a.span.size a.span.addr a.excerpt.now _ _ c.requires.1 in
     omega arith
 
 pub put_address-next-requires : goal.put_address-next-requires
 put_address-next-requires c =
     let a = c.args in
-    let room = fits a.options.options a.widths a.image.bytes.now a.image.len a.span.offset a.span.size a.span.addr a.excerpt.now _ _ c.requires.1 in
+    let room = fits a.options.given a.widths a.image.bytes.now a.image.len a.span.offset a.span.size a.span.addr a.excerpt.now _ _ c.requires.1 in
     (c.requires.0.address_fits, omega arith)
 
 pub put_all-next-requires-2 : goal.put_all-next-requires-2
 put_all-next-requires-2 c =
     let a = c.args in
-    let room = fits a.options.options a.widths a.image.bytes.now a.image.len a.span.offset a.span.size a.span.addr a.excerpt.now _ _ c.requires.1 in
-    omega (arith, wide a.options.options a.widths.addr a.span.addr)
+    let room = fits a.options.given a.widths a.image.bytes.now a.image.len a.span.offset a.span.size a.span.addr a.excerpt.now _ _ c.requires.1 in
+    omega (arith, wide a.options.given a.widths.addr a.span.addr)
 
 pub put_column-next-requires : goal.put_column-next-requires
 put_column-next-requires c =
     let a = c.args in
-    let room = fits a.options.options a.widths a.image.bytes.now a.image.len a.span.offset a.span.size a.span.addr a.excerpt.now _ _ c.requires.1 in
-    omega (arith, wide a.options.options a.widths.addr a.span.addr)
+    let room = fits a.options.given a.widths a.image.bytes.now a.image.len a.span.offset a.span.size a.span.addr a.excerpt.now _ _ c.requires.1 in
+    omega (arith, wide a.options.given a.widths.addr a.span.addr)
 
 pub put_all-next-requires-3 : goal.put_all-next-requires-3
 put_all-next-requires-3 c =
     let a = c.args in
-    let room = fits a.options.options a.widths a.image.bytes.now a.image.len a.span.offset a.span.size a.span.addr a.excerpt.now _ _ c.requires.1 in
-    omega (arith, wide a.options.options a.widths.addr a.span.addr)
+    let room = fits a.options.given a.widths a.image.bytes.now a.image.len a.span.offset a.span.size a.span.addr a.excerpt.now _ _ c.requires.1 in
+    omega (arith, wide a.options.given a.widths.addr a.span.addr)
 
 pub put_all-next-requires-4 : goal.put_all-next-requires-4
 put_all-next-requires-4 c =
     let a = c.args in
-    let room = fits a.options.options a.widths a.image.bytes.now a.image.len a.span.offset a.span.size a.span.addr a.excerpt.now _ _ c.requires.1 in
-    omega (arith, wide a.options.options a.widths.addr a.span.addr)
+    let room = fits a.options.given a.widths a.image.bytes.now a.image.len a.span.offset a.span.size a.span.addr a.excerpt.now _ _ c.requires.1 in
+    omega (arith, wide a.options.given a.widths.addr a.span.addr)
 
 pub put-requires : goal.put-requires
 put-requires c =
     let a = c.args in
-    let room = fits a.options.options a.widths a.image.bytes.now a.image.len a.span.offset a.span.size a.span.addr a.excerpt.now _ _ c.requires.1 in
-    omega (arith, wide a.options.options a.widths.addr a.span.addr)
+    let room = fits a.options.given a.widths a.image.bytes.now a.image.len a.span.offset a.span.size a.span.addr a.excerpt.now _ _ c.requires.1 in
+    omega (arith, wide a.options.given a.widths.addr a.span.addr)
 
 pub returns : goal.returns
 unfolding line_text

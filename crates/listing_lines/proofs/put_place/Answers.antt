@@ -10,7 +10,7 @@ use Rattle.listing_lines.proofs.Lines.{place_absent, place_present}
 use Rattle.listing_lines.proofs.put_place.Goals as goal
 
 pub put_right-requires : goal.put_right-requires
-put_right-requires c = omega (arith, c.requires.1, ap length (place_absent c.args.options.options c.args.width c.args.offset c.args.number c.args.dashes.now c.if-offset-eq-ABSENT.true), padded_length 32 c.args.width c.args.dashes.now)
+put_right-requires c = omega (arith, c.requires.1, ap length (place_absent c.args.options.given c.args.width c.args.offset c.args.number c.args.dashes.now c.if-offset-eq-ABSENT.true), padded_length 32 c.args.width c.args.dashes.now)
 
 pub returns-then-offset-eq-ABSENT : goal.returns-then-offset-eq-ABSENT
 returns-then-offset-eq-ABSENT c = rw (place_absent _ _ _ _ _ c.if-offset-eq-ABSENT.true) c.put_right.ensures
@@ -18,7 +18,7 @@ returns-then-offset-eq-ABSENT c = rw (place_absent _ _ _ _ _ c.if-offset-eq-ABSE
 pub put_number-requires : goal.put_number-requires
 put_number-requires c =
     let a = c.args in
-    let o = a.options.options in
+    let o = a.options.given in
     let t = number_text Lower o.addr_base a.number in (
       rw a.options.addresses (c.requires.0 c.if-offset-eq-ABSENT.false),
       omega (arith, c.requires.1, ap length (place_present o a.width a.offset a.number a.dashes.now c.if-offset-eq-ABSENT.false), padded_length 32 a.width t),

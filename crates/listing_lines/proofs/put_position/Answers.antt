@@ -7,16 +7,16 @@ use Rattle.listing_lines.proofs.Lines.{position_parts}
 use Rattle.listing_lines.proofs.put_position.Goals as goal
 
 pub put-next-requires : goal.put-next-requires
-put-next-requires c = omega (arith, position_parts c.args.options.options c.args.widths c.args.offset)
+put-next-requires c = omega (arith, position_parts c.args.options.given c.args.widths c.args.offset)
 
 pub put_place-next-requires : goal.put_place-next-requires
-put_place-next-requires c = (c.requires.0, omega (arith, position_parts c.args.options.options c.args.widths c.args.offset))
+put_place-next-requires c = (c.requires.0, omega (arith, position_parts c.args.options.given c.args.widths c.args.offset))
 
 pub put-next-requires-2 : goal.put-next-requires-2
-put-next-requires-2 c = omega (arith, position_parts c.args.options.options c.args.widths c.args.offset)
+put-next-requires-2 c = omega (arith, position_parts c.args.options.given c.args.widths c.args.offset)
 
 pub put_place-requires : goal.put_place-requires
-put_place-requires c = (c.requires.1, omega (arith, position_parts c.args.options.options c.args.widths c.args.offset))
+put_place-requires c = (c.requires.1, omega (arith, position_parts c.args.options.given c.args.widths c.args.offset))
 
 pub returns : goal.returns
 unfolding position

@@ -28,11 +28,11 @@ span_length-needed-requires c =
     let sound = c.requires.sound in
     let place = c.loop-place.invariant.2 c.loop-place.place-index c.loop-place-test.true in
     let columns = a.spans.columns in
-    let fits = fits_at a.options.options columns.offsets.now columns.sizes.now columns.addrs.now (length columns.offsets.now) _ place in
+    let fits = fits_at a.options.given columns.offsets.now columns.sizes.now columns.addrs.now (length columns.offsets.now) _ place in
     let span = c.span-span.ensures in
     record {
       narrow = (c.requires.narrow.0, rw (c.requires.narrow.1, span.offset, span.addr) fits);
-      sound = (sound.0, sound.1, rw (span.offset, span.size, span.location) (sound_at a.options.options (lent columns) a.sources.firmware.now a.sources.protocol.now sound.2 _ place));
+      sound = (sound.0, sound.1, rw (span.offset, span.size, span.location) (sound_at a.options.given (lent columns) a.sources.firmware.now a.sources.protocol.now sound.2 _ place));
     }
 
 pub overflow_add-needed : goal.overflow_add-needed
@@ -48,7 +48,7 @@ loop-place-preserved c =
     let l = c.loop-place in
     let k = l.place-index in
     let span = c.span-span.ensures in
-    let line_of : List ℕ → ℕ → ℕ → List ℕ = λ bytes len k. line_at a.options.options a.widths bytes len (lent a.spans.columns) a.sources.firmware.now a.sources.protocol.now (get_or a.places.now k 0) in
+    let line_of : List ℕ → ℕ → ℕ → List ℕ = λ bytes len k. line_at a.options.given a.widths bytes len (lent a.spans.columns) a.sources.firmware.now a.sources.protocol.now (get_or a.places.now k 0) in
     let line : (bytes : List ℕ) (len : ℕ) → length (line_of bytes len k) ≡ c.span_length-needed.result = λ bytes len. rw (span.offset, span.size, span.addr, span.location) at (c.span_length-needed.ensures.0 bytes len) in (
       λ bytes len.
           let f = line_of bytes len in

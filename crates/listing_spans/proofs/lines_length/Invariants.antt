@@ -7,6 +7,6 @@ use Rattle.listing.specs.Listing.{lent, line_at}
 use Rattle.listing_spans.proofs.lines_length.Given as goal
 
 abbrev pub invariant-loop-place : goal.invariant-loop-place
-invariant-loop-place l = ((bytes : List ℕ) (len : ℕ) → length (pieces (λ j. line_at l.options.options l.widths bytes len (lent l.spans.columns) l.sources.firmware.now l.sources.protocol.now (get_or l.places j 0)) l.place-index) ≡ l.needed)
+invariant-loop-place l = ((bytes : List ℕ) (len : ℕ) → length (pieces (λ j. line_at l.options.given l.widths bytes len (lent l.spans.columns) l.sources.firmware.now l.sources.protocol.now (get_or l.places j 0)) l.place-index) ≡ l.needed)
     × (l.needed ≤ l.place-index * 2 ^ 35)
     × ((j : ℕ) → j < length l.places → get_or l.places j 0 < length l.spans.columns.offsets.now)

@@ -30,14 +30,14 @@ put_span-next-requires c =
     let k = l.place-index in
     let place = l.invariant.2 k c.loop-place-test.true in
     let columns = a.spans.columns in
-    let fits = fits_at a.options.options columns.offsets.now columns.sizes.now columns.addrs.now (length columns.offsets.now) _ place in
+    let fits = fits_at a.options.given columns.offsets.now columns.sizes.now columns.addrs.now (length columns.offsets.now) _ place in
     let span = c.span-span.ensures in
-    let at_place : ℕ → List ℕ = line_at a.options.options a.widths a.image.bytes.now a.image.len (lent columns) a.sources.firmware.now a.sources.protocol.now in
+    let at_place : ℕ → List ℕ = line_at a.options.given a.widths a.image.bytes.now a.image.len (lent columns) a.sources.firmware.now a.sources.protocol.now in
     let line : ℕ → List ℕ = λ k. at_place (get_or a.places.now k 0) in
     let one = pieces_room line k (length a.places.now) c.loop-place-test.true in
     let room : l.next + length (line k) ≤ length l.out = omega (arith, l.invariant.0.next, c.requires.room, ap length (flat_places at_place a.places.now 0)) in
     record {
-      sound = (rw (c.requires.widths, span.offset, span.addr) fits, rw (span.offset, span.size, span.location) (sound_at a.options.options (lent columns) a.sources.firmware.now a.sources.protocol.now c.requires.sound _ place));
+      sound = (rw (c.requires.widths, span.offset, span.addr) fits, rw (span.offset, span.size, span.location) (sound_at a.options.given (lent columns) a.sources.firmware.now a.sources.protocol.now c.requires.sound _ place));
       room = rw (span.offset, span.size, span.addr, span.location) room;
     }
 

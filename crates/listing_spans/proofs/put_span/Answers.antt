@@ -9,18 +9,18 @@ use Rattle.listing_spans.proofs.put_span.Goals as goal
 pub excerpt-text-requires : goal.excerpt-text-requires
 excerpt-text-requires c =
     let a = c.args in
-    in_text a.options.options a.sources.firmware.now a.sources.protocol.now a.span.offset a.span.size a.span.location.file a.span.location.start a.span.location.end c.requires.sound.1 (sym c.shown.ensures ∙ c.if-shown.true)
+    in_text a.options.given a.sources.firmware.now a.sources.protocol.now a.span.offset a.span.size a.span.location.file a.span.location.start a.span.location.end c.requires.sound.1 (sym c.shown.ensures ∙ c.if-shown.true)
 
 pub put_line-requires : goal.put_line-requires
 put_line-requires c =
     let a = c.args in
-    let line = line_shown a.options.options a.widths a.image.bytes.now a.image.len a.span.offset a.span.size a.span.addr (excerpt_of a.sources.firmware.now a.sources.protocol.now a.span.location.file a.span.location.start a.span.location.end) (sym c.shown.ensures ∙ c.if-shown.true) in
+    let line = line_shown a.options.given a.widths a.image.bytes.now a.image.len a.span.offset a.span.size a.span.addr (excerpt_of a.sources.firmware.now a.sources.protocol.now a.span.location.file a.span.location.start a.span.location.end) (sym c.shown.ensures ∙ c.if-shown.true) in
     (c.requires.sound.0, rw (c.excerpt-text.ensures, ← line) c.requires.room)
 
 pub returns-then-shown : goal.returns-then-shown
 returns-then-shown c =
     let a = c.args in
-    let line = line_shown a.options.options a.widths a.image.bytes.now a.image.len a.span.offset a.span.size a.span.addr (excerpt_of a.sources.firmware.now a.sources.protocol.now a.span.location.file a.span.location.start a.span.location.end) (sym c.shown.ensures ∙ c.if-shown.true) in
+    let line = line_shown a.options.given a.widths a.image.bytes.now a.image.len a.span.offset a.span.size a.span.addr (excerpt_of a.sources.firmware.now a.sources.protocol.now a.span.location.file a.span.location.start a.span.location.end) (sym c.shown.ensures ∙ c.if-shown.true) in
     rw (line, ← c.excerpt-text.ensures) c.put_line.ensures
 
 pub returns : goal.returns

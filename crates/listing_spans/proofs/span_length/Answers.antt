@@ -17,9 +17,9 @@ use Rattle.listing_spans.proofs.span_length.Goals as goal
 
 -- where the excerpt of a span is
 placed : (o : ListingOptions) (span : ListedSpan) (firmware protocol : List ℕ)
-    → faulty o.options firmware protocol span.offset span.size span.location.file span.location.start span.location.end ≡ false → shown o.options span.size ≡ true
+    → faulty o.given firmware protocol span.offset span.size span.location.file span.location.start span.location.end ≡ false → shown o.given span.size ≡ true
     → (span.location.start ≤ span.location.end) × (span.location.end ≤ length (source firmware protocol span.location.file))
-placed o span firmware protocol e h = in_text o.options firmware protocol span.offset span.size span.location.file span.location.start span.location.end e h
+placed o span firmware protocol e h = in_text o.given firmware protocol span.offset span.size span.location.file span.location.start span.location.end e h
 
 pub excerpt-text-requires : goal.excerpt-text-requires
 excerpt-text-requires c =
@@ -38,7 +38,7 @@ pub returns-then-shown : goal.returns-then-shown
 returns-then-shown c =
     let a = c.args in (
       λ bytes len.
-          ap length (line_shown a.options.options a.widths bytes len a.span.offset a.span.size a.span.addr _ (sym c.shown.ensures ∙ c.if-shown.true))
+          ap length (line_shown a.options.given a.widths bytes len a.span.offset a.span.size a.span.addr _ (sym c.shown.ensures ∙ c.if-shown.true))
           ∙ c.line_length.ensures.0 bytes len _ (ap length (sym c.excerpt-text.ensures)),
       c.line_length.ensures.1,
     )
@@ -46,4 +46,4 @@ returns-then-shown c =
 pub returns : goal.returns
 returns c =
     let a = c.args in
-    (λ bytes len. ap length (line_hidden a.options.options a.widths bytes len a.span.offset a.span.size a.span.addr _ (sym c.shown.ensures ∙ c.if-shown.false)), omega arith)
+    (λ bytes len. ap length (line_hidden a.options.given a.widths bytes len a.span.offset a.span.size a.span.addr _ (sym c.shown.ensures ∙ c.if-shown.false)), omega arith)

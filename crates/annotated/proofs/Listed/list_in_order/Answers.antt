@@ -47,9 +47,9 @@ pub returns-then-out-needed : goal.returns-then-out-needed
 returns-then-out-needed c =
     let a = c.args.self in
     let w = c.column_widths-widths in
-    let whole = made_length a.options.options w.result a.image.bytes.now a.image.len (lent a.spans.columns) a.sources.firmware.now a.sources.protocol.now c.args.places.now (rw (c.list.ensures.0, c.list.ensures.1) at w.ensures.measured) c.requires in
+    let whole = made_length a.options.given w.result a.image.bytes.now a.image.len (lent a.spans.columns) a.sources.firmware.now a.sources.protocol.now c.args.places.now (rw (c.list.ensures.0, c.list.ensures.1) at w.ensures.measured) c.requires in
     let lines = c.lines_length-lines.ensures.0 a.image.bytes.now a.image.len in
-    exports_no_room (annotated_text a.options.options a.image.bytes.now a.image.len (lent a.spans.columns) a.sources.firmware.now a.sources.protocol.now) _ (omega arith) c.if-out-needed.true
+    exports_no_room (annotated_text a.options.given a.image.bytes.now a.image.len (lent a.spans.columns) a.sources.firmware.now a.sources.protocol.now) _ (omega arith) c.if-out-needed.true
 
 pub put_heading-next-requires : goal.put_heading-next-requires
 put_heading-next-requires c = omega arith
@@ -72,10 +72,10 @@ returns c =
     let a = c.args.self in
     let w = c.column_widths-widths in
     let measured = rw (c.list.ensures.0, c.list.ensures.1) at w.ensures.measured in
-    let whole = made_length a.options.options w.result a.image.bytes.now a.image.len (lent a.spans.columns) a.sources.firmware.now a.sources.protocol.now c.args.places.now measured c.requires in
+    let whole = made_length a.options.given w.result a.image.bytes.now a.image.len (lent a.spans.columns) a.sources.firmware.now a.sources.protocol.now c.args.places.now measured c.requires in
     let lines = c.lines_length-lines.ensures.0 a.image.bytes.now a.image.len in
-    let text = annotated_text a.options.options a.image.bytes.now a.image.len (lent a.spans.columns) a.sources.firmware.now a.sources.protocol.now in
+    let text = annotated_text a.options.given a.image.bytes.now a.image.len (lent a.spans.columns) a.sources.firmware.now a.sources.protocol.now in
     let enough : length text ≤ length c.args.out.now = omega arith in
     exports_text {t = text} enough
-    (rw (made a.options.options w.result a.image.bytes.now a.image.len (lent a.spans.columns) a.sources.firmware.now a.sources.protocol.now c.args.places.now measured c.requires)
+    (rw (made a.options.given w.result a.image.bytes.now a.image.len (lent a.spans.columns) a.sources.firmware.now a.sources.protocol.now c.args.places.now measured c.requires)
     (writes_then c.put_heading-next.ensures c.put_lines.ensures))
