@@ -38,10 +38,6 @@ pub copied_in : (w : Span → ℕ) (xs : List Span) (i : ℕ) (d : Span) → i <
     → set (sets zeros 0 (take i (map w xs))) i (w (get_or xs i d)) ≡ sets zeros 0 (take (i + 1) (map w xs))
 copied_in w xs i d l = ap (set (sets zeros 0 (take i (map w xs))) i) (number_in w xs i d l) ∙ sets_copied zeros (map w xs) i (omega (arith, map_length w xs))
 
-pub copied : (w : Span → ℕ) (xs : List Span) (i : ℕ) → i < length xs
-    → set (sets zeros 0 (take i (map w xs))) i (w (get_or xs i no_span)) ≡ sets zeros 0 (take (i + 1) (map w xs))
-copied w xs i l = copied_in w xs i no_span l
-
 -- The first k, where no more are there than n.
 pub take_most : {A : Type 0} (l : List A) (k n : ℕ) → length l ≡ n → take (min k n) l ≡ take k l
 take_most l k n e = sym (take-take (min k n) k l (omega arith)) ∙ take_all (min k n) (take k l) (omega (arith, length-take k l))
