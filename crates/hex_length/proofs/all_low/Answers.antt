@@ -7,4 +7,4 @@ use Rattle.hex_length.proofs.all_low.Goals as goal
 pub returns : goal.returns
 returns c e =
     let a = c.args in
-    blocks_small a.unit a.offsets.now a.sizes.now c.joined-most.result c.requires.0 c.joined-most.ensures (ltb-true _ _ e)
+    blocks_small a.unit a.blocks.offsets.now a.blocks.sizes.now c.joined-most.result c.requires c.joined-most.ensures (ltb-true _ _ e)

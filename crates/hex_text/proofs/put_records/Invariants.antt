@@ -1,4 +1,3 @@
-use Rattle.std.proofs.Common.{◌≡◌, ◌-◌, ◌≤◌, length}
 use Rattle.output.specs.Pieces.{pieces}
 use Rattle.output.specs.Writes.{Writes}
 use Rattle.hex_records.specs.Plan.{chunk_at}
@@ -6,9 +5,4 @@ use Rattle.hex_records.specs.Text.{record_text}
 use Rattle.hex_text.proofs.put_records.Given as goal
 
 abbrev pub invariant-loop-n : goal.invariant-loop-n
-invariant-loop-n l = (l.n ≤ l.records)
-    × Writes (pieces (λ k. record_text l.image.bytes.now l.image.len (chunk_at l.unit (record { offset = l.offset; size = l.size }) k)) l.n) l.initial.out l.at l.out l.next
-    × (length l.out ≡ length l.initial.out)
-
-abbrev pub decreases-loop-n : goal.decreases-loop-n
-decreases-loop-n l = l.records - l.n
+invariant-loop-n l = Writes (pieces (λ k. record_text l.image.bytes.now l.image.len (chunk_at l.unit (record { offset = l.offset; size = l.fn.size }) k)) l.n) l.initial.out l.at l.out l.next

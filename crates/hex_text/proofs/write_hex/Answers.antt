@@ -11,16 +11,16 @@ use Rattle.hex_text.proofs.write_hex.Goals as goal
 pub put_any-next-requires : goal.put_any-next-requires
 unfolding hex_text
 put_any-next-requires c =
-    let measured : let a = c.args in length (flat_map (record_text a.image.bytes.now a.image.len) (hex_plan a.unit (blocks_at a.offsets.now a.sizes.now))) + 11 ≤ length a.out.now = let a = c.args in
-    let texts = flat_map (record_text a.image.bytes.now a.image.len) (hex_plan a.unit (blocks_at a.offsets.now a.sizes.now)) in
+    let measured : let a = c.args in length (flat_map (record_text a.image.bytes.now a.image.len) (hex_plan a.unit (blocks_at a.blocks.offsets.now a.blocks.sizes.now))) + 11 ≤ length a.out.now = let a = c.args in
+    let texts = flat_map (record_text a.image.bytes.now a.image.len) (hex_plan a.unit (blocks_at a.blocks.offsets.now a.blocks.sizes.now)) in
     omega (arith, c.requires.room, length-append texts (ascii ":00000001FF")) in
-    record { lent = c.requires.lent; low = c.requires.low; room = omega (arith, measured) }
+    record { unit = c.requires.unit; low = c.requires.low; room = omega (arith, measured) }
 
 pub put_all-requires : goal.put_all-requires
 unfolding hex_text
 put_all-requires c =
-    let measured : let a = c.args in length (flat_map (record_text a.image.bytes.now a.image.len) (hex_plan a.unit (blocks_at a.offsets.now a.sizes.now))) + 11 ≤ length a.out.now = let a = c.args in
-    let texts = flat_map (record_text a.image.bytes.now a.image.len) (hex_plan a.unit (blocks_at a.offsets.now a.sizes.now)) in
+    let measured : let a = c.args in length (flat_map (record_text a.image.bytes.now a.image.len) (hex_plan a.unit (blocks_at a.blocks.offsets.now a.blocks.sizes.now))) + 11 ≤ length a.out.now = let a = c.args in
+    let texts = flat_map (record_text a.image.bytes.now a.image.len) (hex_plan a.unit (blocks_at a.blocks.offsets.now a.blocks.sizes.now)) in
     omega (arith, c.requires.room, length-append texts (ascii ":00000001FF")) in
     let w = c.put_any-next.ensures in
     omega (arith, measured, w.next, writes_length w)
