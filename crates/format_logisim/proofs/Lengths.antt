@@ -7,6 +7,7 @@ use Prim.Native.Nat.{ℕ, zero, suc, ◌+◌, ◌-◌, ◌*◌, ◌/◌, ◌%◌
 use native.Mathlib.Omega.{arith}
 use native.Mathlib.Numerals.{add-one}
 use native.Mathlib.Nat.{zero-mul, suc-mul, add-mul}
+use mir.Val.{bool_byte}
 use lib.Dec.{eqb}
 use lib.ListN.{length, length-append}
 use Rattle.bitvec.specs.Size.{ceil_div}
@@ -29,6 +30,11 @@ chunk_parts bytes len i m = simp (length-append, line_length) (omega arith)
 -- That is a newline, or nothing.
 pub chunk_length : (bytes : List ℕ) (len i m : ℕ) → length (chunk_text bytes len i m) ≡ (m + 3) / 4 + 1 + cond (eqb ((i + m) / 8 % 16) 0) 1 0
 chunk_length bytes len i m = chunk_parts bytes len i m ∙ omega (arith, every_length 16 ((i + m) / 8) (ascii "\n"))
+
+-- A truth value as a number.
+pub as_number : (b : Bool) → bool_byte b ≡ cond b 1 0
+as_number true = refl
+as_number false = refl
 
 pub one_most : (b : Bool) → cond b 1 0 ≤ 1
 one_most true = omega arith

@@ -5,16 +5,17 @@ use mathlib.Core.List.{List, [], ◌++◌, append_assoc}
 use Prim.Native.Nat.{ℕ, ◌+◌, ◌-◌, ◌*◌, ◌/◌, ◌%◌, ◌<◌, ◌≤◌, min}
 use native.Mathlib.Omega.{arith}
 use native.Mathlib.Nat.{mul_assoc, mul_comm, add-mul, suc-mul, le_of_mul-le-mul_right}
+use lib.ListN.{length, length-append}
 use borrow.Author.Tests.{eq-eqb, ne_eqb}
 use Rattle.bitvec.specs.Size.{ceil_div}
-use Rattle.bitvec.proofs.Size.{ceil_covers}
+use Rattle.bitvec.proofs.Size.{ceil_covers, ceil_inside}
 use Rattle.output.specs.Ascii.{ascii}
 use Rattle.output.specs.Pieces.{pieces, every}
-use Rattle.output.proofs.Pieces.{pieces_next, pieces_append, pieces_equal}
+use Rattle.output.proofs.Pieces.{pieces_next, pieces_append, pieces_equal, pieces_most, pieces_room}
 use Rattle.rows.specs.declared.ByteDigits.TheVariants.{Hex}
 use Rattle.rows.specs.Rows.{bytes_text, rows_text}
 use Rattle.output.proofs.Order.{stride}
-use Rattle.rows.proofs.Rows.{rows_next}
+use Rattle.rows.proofs.Rows.{rows_next, rows_length}
 use Rattle.digits.specs.Run.{short_digit, hex_line}
 use Rattle.image_parts.specs.Parts.{part_bits}
 use Rattle.digits.proofs.Run.{bytes_run}
@@ -82,6 +83,37 @@ pub line_next : (bytes : List ℕ) (len m n q : ℕ) → 0 < m → 0 < n → m *
     → pieces (chunk_at bytes len (m * 8)) (q * n + n) ≡ pieces (chunk_at bytes len (m * 8)) (q * n) ++ (rows_text Hex bytes len (q * 16) m (ascii " ") n ++ ascii "\n")
 line_next bytes len m n q some p e h =
     pieces_append (chunk_at bytes len (m * 8)) (q * n) n ∙ rw (line_rows bytes len m n q some e h p)
+
+-- One line more, and that there is room for it.
+pub line_more : (bytes : List ℕ) (len m n k lines : ℕ) → 0 < m → 0 < n → m * n ≡ 16 → lines * 128 ≤ len → k < lines
+    → (pieces (chunk_at bytes len (m * 8)) ((k + 1) * n) ≡ pieces (chunk_at bytes len (m * 8)) (k * n) ++ (rows_text Hex bytes len (k * 16) m (ascii " ") n ++ ascii "\n"))
+    × (length (pieces (chunk_at bytes len (m * 8)) (k * n)) + (n * (m * 2 + 1) + 1) ≤ length (pieces (chunk_at bytes len (m * 8)) (lines * n)))
+line_more bytes len m n k lines p q e h l =
+    let chunks : ℕ → List ℕ = pieces (chunk_at bytes len (m * 8)) in
+    let row = rows_text Hex bytes len (k * 16) m (ascii " ") n in
+    let more : (k + 1) * n ≡ k * n + n = omega (arith, suc-mul k n) in
+    let next : chunks ((k + 1) * n) ≡ chunks (k * n) ++ (row ++ ascii "\n") = ap chunks more ∙ line_next bytes len m n k p q e (omega arith) in (
+      next,
+      omega (
+        arith,
+        pieces_most (chunk_at bytes len (m * 8)) ((k + 1) * n) (lines * n) (rw more (stride k lines n l)),
+        ap length next,
+        length-append (chunks (k * n)) (row ++ ascii "\n"),
+        length-append row (ascii "\n"),
+        rows_length Hex bytes len (k * 16) m (ascii " ") n,
+      ),
+    )
+
+-- A chunk begins within the image, and has room behind those before it.
+pub chunk_fits : (bytes : List ℕ) (len width first i chunks : ℕ) → 0 < width → chunks ≡ ceil_div len width → first ≤ i → i < chunks
+    → (i * width < len)
+    × (length (pieces (λ k. chunk_at bytes len width (first + k)) (i - first)) + length (chunk_at bytes len width i)
+    ≤ length (pieces (λ k. chunk_at bytes len width (first + k)) (chunks - first)))
+chunk_fits bytes len width first i chunks p e f l =
+    let place : first + (i - first) ≡ i = omega arith in (
+      ceil_inside len width i p (omega (arith, e)),
+      rw place at (pieces_room (λ k. chunk_at bytes len width (first + k)) (i - first) (chunks - first) (omega arith)),
+    )
 
 -- The file: its first line, the first n chunks and the others.
 pub text_parts : (bytes : List ℕ) (len width n chunks : ℕ) → chunks ≡ ceil_div len width → n ≤ chunks

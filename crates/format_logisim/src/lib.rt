@@ -2,7 +2,7 @@
 // and its length, or refusal 1, 2 or 8.
 #![tactic(auto)]
 
-ghost use Rattle.std.specs.Prelude.{◌≡◌, cond, List, ℕ, ◌+◌, ◌-◌, ◌*◌, ◌/◌, ◌%◌, ◌≤◌, ◌<◌, ◌^◌, eqb, length};
+ghost use Rattle.std.specs.Prelude.{◌≡◌, List, ℕ, ◌+◌, ◌-◌, ◌*◌, ◌/◌, ◌%◌, ◌≤◌, ◌<◌, ◌^◌, eqb, length};
 ghost use Rattle.bitvec.specs.Bits.{byte_at};
 ghost use Rattle.bitvec.specs.Size.{ceil_div};
 ghost use Rattle.output.specs.Ascii.{ascii};
@@ -14,12 +14,19 @@ ghost use Rattle.hex_pair.specs.Pair.{four_bytes};
 ghost use Rattle.rows.specs.declared.ByteDigits.TheVariants.{Hex};
 ghost use Rattle.rows.specs.Rows.{rows_text};
 ghost use Rattle.format_logisim.specs.Logisim.{chunk_text, chunk_at, logisim_text, logisim_outcome};
-ghost use Rattle.format_logisim.specs.Short.{breaks, per_line, digit_of, spaced_digits, broken_digits, byte_chunks, whole_chunks};
+ghost use Rattle.format_logisim.specs.Short.{breaks, digit_of, spaced_digits, broken_digits, byte_chunks, whole_chunks};
 
 use bitvec::{BitOffset, Image};
 use numbers::Letters;
 use outcome::{Export, Refusal};
 use rows::ByteDigits;
+
+// Whether a newline follows the chunk that ends at a bit.
+fn ends_line(end: usize) -> bool
+    ensures { result ≡ eqb (end / 8 % 16) 0 }
+{
+    end / 8 % 16 == 0
+}
 
 // The length of a chunk of `count` bits from `from` on, whatever the image.
 fn chunk_length(from: usize, count: usize) -> usize
@@ -27,17 +34,10 @@ fn chunk_length(from: usize, count: usize) -> usize
     ensures { (bytes : List ℕ) (len : ℕ) → length (chunk_text bytes len from count) ≡ result }
 {
     let digits = bitvec::parts(count, 4);
-    if (from + count) / 8 % 16 == 0 {
+    if ends_line(from + count) {
         return digits + 2;
     }
     digits + 1
-}
-
-// 1 where a newline follows the chunk that ends at a bit, and 0 where not.
-fn newline(end: usize) -> usize
-    ensures { result ≡ cond (eqb (end / 8 % 16) 0) 1 0 }
-{
-    if end / 8 % 16 == 0 { 1 } else { 0 }
 }
 
 // How many newlines follow the first `count` chunks of `width` bits.
@@ -45,13 +45,9 @@ fn breaks(width: usize, count: usize) -> usize
     requires { (width ≤ 4096) × (count ≤ 128) }
     ensures { (result ≡ breaks width count) × (result ≤ count) }
 {
-    let mut end = 0;
-    let mut total: usize = 0;
-    let mut k = 0;
-    while k < count {
-        end += width;
-        total += newline(end);
-        k += 1;
+    let mut total = 0;
+    for k in 0..count {
+        total += ends_line(k * width + width) as usize;
     }
     total
 }
@@ -104,14 +100,11 @@ fn put_chunks(
     requires room { at + length (pieces (λ k. chunk_at image.bytes.now image.len width (first + k)) (chunks - first)) ≤ length out.old }
     ensures { Writes (pieces (λ k. chunk_at image.entry.bytes.now image.entry.len width (first + k)) (chunks - first)) out.old at out.new result }
 {
-    let mut offset = first * width;
     let mut next = at;
-    let mut i = first;
-    while i < chunks {
+    for i in first..chunks {
+        let offset = i * width;
         let count = width.min(image.len - offset);
         next = put_chunk(out, next, image, BitOffset(offset), count);
-        offset += width;
-        i += 1;
     }
     next
 }
@@ -150,11 +143,9 @@ fn put_lines(
     ensures { Writes (pieces (chunk_at image.entry.bytes.now image.entry.len (size * 8)) (lines * count)) out.old at out.new result }
 {
     let mut next = at;
-    let mut k = 0;
-    while k < lines {
+    for k in 0..lines {
         next = put_sixteen(out, next, image, k * 16, size, count);
         next = output::put(out, next, b'\n');
-        k += 1;
     }
     next
 }
@@ -276,41 +267,31 @@ fn put_bytes(out: &mut [u8], at: usize, image: Image, width: usize, count: usize
     ensures { Writes (pieces (chunk_at image.entry.bytes.now image.entry.len width) (count * (8 / width))) out.old at out.new result }
 {
     let mut next = at;
-    let mut j = 0;
-    while j < count {
+    for k in 0..count.div_ceil(16) {
+        let j = k * 16;
         let size = (count - j).min(16);
         next = put_line(out, next, image, width, j, size);
-        j += size;
     }
     next
 }
 
-// How many chunks make a line of 16 bytes, where they are short and of whole bytes. Longer chunks are
-// as fast one by one.
-fn per_line(width: usize) -> usize
-    ensures { (result ≡ per_line width) × (result ≤ 16) × (result * width ≤ 128) }
-{
-    if width == 8 {
-        return 16;
-    }
-    if width == 16 {
-        return 8;
-    }
-    if width == 32 { 4 } else { 0 }
-}
-
-// How many chunks are written by bytes or by lines.
+// How many chunks are written by bytes or by lines: those of lines of 16 bytes, where they are of
+// whole bytes. Chunks longer than 32 bits are as fast one by one.
 #[tactic(auto, unfolding(crate::specs::Short::by_bytes, crate::specs::Short::per_line, crate::specs::Short::whole_chunks))]
 fn whole_chunks(bits: usize, width: usize) -> usize
     requires { bits ≤ 16777216 }
     ensures { (result ≡ whole_chunks bits width) × (result * width ≤ bits) }
 {
     let bytes = bits / 8;
+    let lines = bits / 128;
     match width {
         1 => bytes * 8,
         2 => bytes * 4,
         4 => bytes * 2,
-        _ => bits / 128 * per_line(width),
+        8 => lines * 16,
+        16 => lines * 8,
+        32 => lines * 4,
+        _ => 0,
     }
 }
 

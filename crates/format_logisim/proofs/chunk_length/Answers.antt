@@ -1,8 +1,7 @@
 -- `format_logisim::chunk_length` meets its contract: one case with the newline and one without.
 -- Assumes nothing.
-use mathlib.Core.Path.{◌∙◌}
+use mathlib.Core.Path.{sym, ◌∙◌}
 use native.Mathlib.Omega.{arith}
-use borrow.Author.Tests.{eq-eqb, ne_eqb}
 use borrow.Author.Rules.{rules}
 use Rattle.bitvec.specs.Size.{ceil_div}
 use Rattle.format_logisim.proofs.Lengths.{chunk_length}
@@ -12,11 +11,11 @@ pub overflow_add-result : goal.overflow_add-result
 unfolding ceil_div
 overflow_add-result c = search rules
 
-pub returns-then-from-count-eq0 : goal.returns-then-from-count-eq0
+pub returns-then-ends_line : goal.returns-then-ends_line
 unfolding ceil_div
-returns-then-from-count-eq0 c bytes len =
+returns-then-ends_line c bytes len =
     let a = c.args in
-    chunk_length bytes len a.from a.count ∙ simp (eq-eqb _ _ c.if-from-count-eq0.true) (omega (arith, c.parts-digits.ensures))
+    chunk_length bytes len a.from a.count ∙ simp (sym c.ends_line.ensures ∙ c.if-ends_line.true) (omega (arith, c.parts-digits.ensures))
 
 pub overflow_add-result-2 : goal.overflow_add-result-2
 unfolding ceil_div
@@ -26,4 +25,4 @@ pub returns : goal.returns
 unfolding ceil_div
 returns c bytes len =
     let a = c.args in
-    chunk_length bytes len a.from a.count ∙ simp (ne_eqb _ _ c.if-from-count-eq0.false) (omega (arith, c.parts-digits.ensures))
+    chunk_length bytes len a.from a.count ∙ simp (sym c.ends_line.ensures ∙ c.if-ends_line.false) (omega (arith, c.parts-digits.ensures))

@@ -1,7 +1,7 @@
 -- `format_logisim::put_spaced` meets its contract: one case for each width.
 -- Assumes nothing.
 use mathlib.Core.Path.{◌≡◌}
-use Prim.Native.Nat.{◌/◌}
+use Prim.Native.Nat.{◌/◌, ◌<◌}
 use native.Mathlib.Omega.{arith}
 use lib.ListN.{get_or}
 use borrow.Author.Rules.{rules}
@@ -18,7 +18,7 @@ put_word-requires c =
 pub returns-then-width-eq1 : goal.returns-then-width-eq1
 returns-then-width-eq1 c =
     let a = c.args in
-    let small = (search rules) in
+    let small : get_or a.image.bytes.now a.j 0 < 256 = search rules in
     rw (
       c.if-width-eq1.true,
       byte_whole a.image.bytes.now a.image.len a.j c.requires.inside.0 small,
