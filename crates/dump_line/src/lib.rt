@@ -73,7 +73,8 @@ fn put_dump_byte(out: &mut [u8], at: usize, image: Image, width: usize, from: Bi
     output::put(out, next, b' ')
 }
 
-// Stores the `count` bytes of a line from byte `first` on, as characters.
+// Stores the `count` bytes of a line from byte `first` on, as characters. It asks for each byte where
+// the image ends, and stays a loop of its own: over a slice, as `put_whole_chars` is, it is no plainer.
 fn put_char_column(out: &mut [u8], at: usize, image: Image, first: usize, count: usize) -> usize
     requires { (first < 2 ^ 32) × (count ≤ 64) × (at + count ≤ length out.old) }
     ensures { Writes (char_column image.entry.bytes.now image.entry.len first count) out.old at out.new result }

@@ -158,7 +158,8 @@ fn put_closed(
     output::put_text(out, next - between.len(), strings.between2)
 }
 
-// Stores `count` groups of whole bytes.
+// Stores `count` groups of whole bytes. The loop stops before the last segment, which has no string
+// behind it, so that a range in steps of `size` is no plainer.
 fn put_byte_groups(
     out: &mut [u8],
     at: usize,

@@ -184,3 +184,13 @@ module _ (bytes : List ℕ) (len w m : ℕ) (small : w ≤ 4) (e : w * m ≡ 8) 
       ap (pieces byte) all
       ∙ pieces_append byte 1 (n - 1)
       ∙ rw (first, broken bytes len w m small e j (omega arith) s, rest (n - 1) (omega arith) (omega arith), count)
+
+  -- how long it is
+  pub line_size : (n : ℕ) → 0 < n → n ≤ 16 → (j + n) * 8 ≤ len
+      → length (pieces (λ i. byte_chunks bytes len w m (j + i)) n) ≡ (m - 1) * 3 + 2 + ((n - 1) * (m * 2) + length (every 16 n (ascii "\n")))
+  line_size n p l h =
+      let byte = byte_at bytes len j in
+      let others = pieces (λ i. spaced_digits w m (byte_at bytes len (j + 1 + i))) (n - 1) in
+      let newline = every 16 n (ascii "\n") in
+      let long : length others ≡ (n - 1) * (m * 2) = pieces_length _ (m * 2) (n - 1) (λ i h. spaced_length w m _) in
+      omega (arith, ap length (line n p l h), length-append (broken_digits w m byte) (others ++ newline), length-append others newline, broken_length w m byte, long)

@@ -127,3 +127,16 @@ text_parts bytes len width n chunks e h =
 -- Chunks that are within the image are not more than all.
 pub chunks_most : (len width n : ℕ) → 0 < width → n * width ≤ len → n ≤ ceil_div len width
 chunks_most len width n p h = le_of_mul-le-mul_right {k = width} (omega (arith, ceil_covers len width p)) p
+
+-- The file with n of its chunks before the others, and its length.
+pub text_split : (bytes : List ℕ) (len width n chunks : ℕ) → 0 < width → chunks ≡ ceil_div len width → n * width ≤ len
+    → (n ≤ chunks)
+    × (logisim_text bytes len width ≡ ascii "v2.0 raw\n" ++ (pieces (chunk_at bytes len width) n ++ pieces (λ k. chunk_at bytes len width (n + k)) (chunks - n)))
+    × (length (logisim_text bytes len width)
+    ≡ 9 + (length (pieces (chunk_at bytes len width) n) + length (pieces (λ k. chunk_at bytes len width (n + k)) (chunks - n))))
+text_split bytes len width n chunks p e h =
+    let front = pieces (chunk_at bytes len width) n in
+    let others = pieces (λ k. chunk_at bytes len width (n + k)) (chunks - n) in
+    let most : n ≤ chunks = omega (arith, e, chunks_most len width n p h) in
+    let text = text_parts bytes len width n chunks e most in
+    (most, text, omega (arith, ap length text, length-append (ascii "v2.0 raw\n") (front ++ others), length-append front others))
