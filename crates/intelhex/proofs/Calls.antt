@@ -6,7 +6,8 @@ use mathlib.Core.List.{List}
 use Prim.Native.Nat.{ℕ}
 use lib.ListN.{length}
 use Rattle.bitvec.specs.Size.{bad_size}
-use Rattle.outcome.specs.declared.Export.{Export}
+use Rattle.std.specs.Prelude.{Result}
+use Rattle.outcome.specs.declared.Refusal.{Refusal}
 use Rattle.outcome.specs.Outcome.{Answer, answer, left, Exports}
 use Rattle.blocks.specs.Blocks.{blocks_of}
 use Rattle.intelhex.specs.Hex.{hex_outcome}
@@ -31,7 +32,7 @@ answers_rule b₁ n₁ b₂ n₂ offsets sizes unit a₁ a₂ out₁ after₁ ou
     y₂
     (rw (← l) (two_images b₁ n₁ b₂ n₂ offsets sizes unit (length out₁) e₁ e₂))
 
-pub calls_rule : (b₁ : List ℕ) (n₁ : ℕ) (b₂ : List ℕ) (n₂ : ℕ) (offsets sizes : List ℕ) (unit : ℕ) (r₁ r₂ : Export) (out₁ after₁ out₂ after₂ : List ℕ)
+pub calls_rule : (b₁ : List ℕ) (n₁ : ℕ) (b₂ : List ℕ) (n₂ : ℕ) (offsets sizes : List ℕ) (unit : ℕ) (r₁ r₂ : Result ℕ Refusal) (out₁ after₁ out₂ after₂ : List ℕ)
     → Exports (hex_outcome b₁ n₁ offsets sizes unit (length out₁)) r₁ out₁ after₁ → Exports (hex_outcome b₂ n₂ offsets sizes unit (length out₂)) r₂ out₂ after₂
     → bad_size b₁ n₁ ≡ false → bad_size b₂ n₂ ≡ false → length out₁ ≡ length out₂
     → SameAnswers r₁ r₂ after₁ after₂ (Agree (blocks_of offsets sizes) b₁ n₁ b₂ n₂)

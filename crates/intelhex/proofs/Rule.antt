@@ -10,7 +10,8 @@ use lib.Dec.{ltb}
 use lib.ListN.{length, take}
 use Rattle.bitvec.specs.Size.{bad_size}
 use Rattle.output.proofs.Order.{by_order}
-use Rattle.outcome.specs.declared.Export.{Export}
+use Rattle.std.specs.Prelude.{Result}
+use Rattle.outcome.specs.declared.Refusal.{Refusal}
 use Rattle.outcome.specs.Outcome.{Outcome, Answer, text, refused, answer, answer_of, left, outside, in_room, Exports}
 use Rattle.outcome.proofs.Outcome.{room_enough, room_short}
 use Rattle.ordering.specs.Lists.{Each}
@@ -96,12 +97,12 @@ same_answered o₁ o₂ a₁ a₂ before₁ after₁ before₂ after₂ A f₁ f
     (λ e. s.0 (sym p.1 ∙ e ∙ q₂), λ a. p.1 ∙ s.1 a ∙ sym q₂)
 
 -- Answers that are cases of the enum.
-of_cases : (r₁ r₂ : Export) (out₁ out₂ : List ℕ) (A : Type 0) → SameAnswered (answer_of r₁) (answer_of r₂) out₁ out₂ A → SameAnswers r₁ r₂ out₁ out₂ A
+of_cases : (r₁ r₂ : Result ℕ Refusal) (out₁ out₂ : List ℕ) (A : Type 0) → SameAnswered (answer_of r₁) (answer_of r₂) out₁ out₂ A → SameAnswers r₁ r₂ out₁ out₂ A
 of_cases r₁ r₂ out₁ out₂ A (refused_both n v z e₁ e₂) = both_refused n v z e₁ e₂
 of_cases r₁ r₂ out₁ out₂ A (texts_both n e₁ e₂ s) = both_texts n e₁ e₂ s
 
 -- The same of two exports.
-pub same_answers : (o₁ o₂ : Outcome) (r₁ r₂ : Export) (before₁ after₁ before₂ after₂ : List ℕ) (A : Type 0)
+pub same_answers : (o₁ o₂ : Outcome) (r₁ r₂ : Result ℕ Refusal) (before₁ after₁ before₂ after₂ : List ℕ) (A : Type 0)
     → ((t : List ℕ) → o₁ ≡ text t → length t ≤ length before₁) → ((t : List ℕ) → o₂ ≡ text t → length t ≤ length before₂)
     → Exports o₁ r₁ before₁ after₁ → Exports o₂ r₂ before₂ after₂ → Same o₁ o₂ A → SameAnswers r₁ r₂ after₁ after₂ A
 same_answers o₁ o₂ r₁ r₂ before₁ after₁ before₂ after₂ A f₁ f₂ x₁ x₂ s =

@@ -1,8 +1,8 @@
 -- What demand 3 compares: the exports of two images, and the bits of the blocks (document 01, "What demand 3 compares").
-use Rattle.std.specs.Prelude.{◌≡◌, ◌↔◌, ◌≢◌, List, ℕ, ◌+◌, ◌*◌, ◌<◌, length, take}
+use Rattle.std.specs.Prelude.{◌≡◌, ◌↔◌, ◌≢◌, List, ℕ, ◌+◌, ◌*◌, ◌<◌, length, take, Result}
 use Rattle.bitvec.specs.Bits.{bit_at}
 use Rattle.bitvec.specs.Size.{ceil_div}
-use Rattle.outcome.specs.declared.Export.{Export}
+use Rattle.outcome.specs.declared.Refusal.{Refusal}
 use Rattle.outcome.specs.Outcome.{Outcome, Answer, text, refused, answer_of}
 use Rattle.ordering.specs.Lists.{Each}
 use Rattle.blocks.specs.Blocks.{Block}
@@ -20,7 +20,7 @@ pub data Same (o₁ o₂ : Outcome) (A : Type 0) : Type 0 where
 
 -- Two answers with the buffers behind the calls: both the same refusal, its number and value, or two texts of one length n, the fronts of
 -- the buffers, that are equal exactly when A holds.
-pub data SameAnswers (r₁ r₂ : Export) (out₁ out₂ : List ℕ) (A : Type 0) : Type 0 where
+pub data SameAnswers (r₁ r₂ : Result ℕ Refusal) (out₁ out₂ : List ℕ) (A : Type 0) : Type 0 where
   both_refused : (n v : ℕ) → n ≢ 0 → answer_of r₁ ≡ record { number = n; value = v } → answer_of r₂ ≡ record { number = n; value = v }
       → SameAnswers r₁ r₂ out₁ out₂ A
   both_texts : (n : ℕ) → answer_of r₁ ≡ record { number = 0; value = n } → answer_of r₂ ≡ record { number = 0; value = n }

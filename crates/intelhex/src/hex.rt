@@ -7,125 +7,55 @@ ghost use Rattle.hex_records.specs.Plan.{hex_plan, blocks_at};
 ghost use Rattle.intelhex.specs.Hex.{plan_outcome, hex_outcome};
 
 use bitvec::Image;
-use blocks::{Blocks, get_blocks};
+use blocks::get_blocks;
 use hex_length::{hex_length, too_high};
 use hex_text::write_hex;
+use ordering::SpanList;
 use outcome::{Export, Refusal};
 
-// The text of the blocks whose offsets and sizes are lent, or refusal 5 or 8.
-fn format_blocks(
-    image: Image,
-    offsets: &[u32],
-    sizes: &[u32],
-    address_unit: usize,
-    out: &mut [u8],
-) -> Export
-    requires { (0 < address_unit) × (length offsets.now ≡ length sizes.now) × (length offsets.now ≤ 4096) }
-    ensures { Exports (plan_outcome image.entry.bytes.now image.entry.len (hex_plan address_unit (blocks_at offsets.now sizes.now)) (length out.old)) result out.old out.new }
+// The text of the blocks that are lent, or refusal 5 or 8.
+fn format_blocks(image: Image, blocks: SpanList, address_unit: usize, out: &mut [u8]) -> Export
+    requires { (0 < address_unit) × (length blocks.offsets.now ≤ 4096) }
+    ensures { Exports (plan_outcome image.entry.bytes.now image.entry.len (hex_plan address_unit (blocks_at blocks.entry.offsets.now blocks.entry.sizes.now)) (length out.old)) result out.old out.new }
 {
-    if too_high(offsets, sizes, address_unit) {
+    if too_high(blocks, address_unit) {
         return Err(Refusal::AddressRange);
     }
-    let needed = hex_length(sizes);
+    let needed = hex_length(blocks.sizes);
     if out.len() < needed {
         return Err(Refusal::NoRoom(needed));
     }
-    Ok(write_hex(image, offsets, sizes, address_unit, out))
+    Ok(write_hex(image, blocks, address_unit, out))
 }
 
-// The text of the blocks that the spans make, or refusal 3, 5 or 8. The blocks are made in two slices
-// that have a place for each span, unless there are too many spans.
-fn format_found(
+// The text of the blocks that the spans make, or refusal 3, 5 or 8. The blocks are made in two arrays
+// that have a place for each span, unless there are too many spans: the smaller N is, the less memory
+// is set to zero.
+fn format_spans<const N: usize>(
     image: Image,
     offsets: &[u32],
     sizes: &[u32],
     address_unit: usize,
-    block_offsets: &mut [u32],
-    block_sizes: &mut [u32],
     out: &mut [u8],
 ) -> Export
     requires unit { 0 < address_unit }
-    requires room { long_list offsets.now sizes.now ≡ false → (length offsets.now ≤ length block_offsets.old) × (length offsets.now ≤ length block_sizes.old) }
+    requires places { N ≤ 4096 }
+    requires room { long_list offsets.now sizes.now ≡ false → length offsets.now ≤ N }
     ensures { Exports (spans_checked refused offsets.now sizes.now (plan_outcome image.entry.bytes.now image.entry.len (hex_plan address_unit (blocks_of offsets.now sizes.now)) (length out.old))) result out.old out.new }
 {
-    let found = get_blocks(offsets, sizes, block_offsets, block_sizes);
-    match found {
-        Blocks::SpanRange(place) => Refusal::SpanRange(place),
-        Blocks::NoRoom(needed) => Refusal::NoRoom(needed),
-        Blocks::Found(count) => format_blocks(
-            image,
-            &block_offsets[..count],
-            &block_sizes[..count],
-            address_unit,
-            out,
-        ),
-    }
-}
-
-// Room for a number of each block.
-fn words() -> [u32; 4096]
-    ensures { length result ≡ 4096 }
-{
-    [0; 4096]
-}
-
-// Room for a number of each of a few blocks.
-fn few_words() -> [u32; 64]
-    ensures { length result ≡ 64 }
-{
-    [0; 64]
-}
-
-// The same for few spans: less memory is set to zero.
-fn format_few(
-    image: Image,
-    offsets: &[u32],
-    sizes: &[u32],
-    address_unit: usize,
-    out: &mut [u8],
-) -> Export
-    requires { (0 < address_unit) × (length offsets.now ≤ 64) }
-    ensures { Exports (spans_checked refused offsets.now sizes.now (plan_outcome image.entry.bytes.now image.entry.len (hex_plan address_unit (blocks_of offsets.now sizes.now)) (length out.old))) result out.old out.new }
-{
-    let mut block_offsets = few_words();
-    let mut block_sizes = few_words();
-    format_found(
-        image,
-        offsets,
-        sizes,
-        address_unit,
-        &mut block_offsets,
-        &mut block_sizes,
-        out,
-    )
-}
-
-// The same for any number of spans.
-fn format_many(
-    image: Image,
-    offsets: &[u32],
-    sizes: &[u32],
-    address_unit: usize,
-    out: &mut [u8],
-) -> Export
-    requires { 0 < address_unit }
-    ensures { Exports (spans_checked refused offsets.now sizes.now (plan_outcome image.entry.bytes.now image.entry.len (hex_plan address_unit (blocks_of offsets.now sizes.now)) (length out.old))) result out.old out.new }
-{
-    let mut block_offsets = words();
-    let mut block_sizes = words();
-    format_found(
-        image,
-        offsets,
-        sizes,
-        address_unit,
-        &mut block_offsets,
-        &mut block_sizes,
-        out,
-    )
+    let mut block_offsets = [0u32; N];
+    let mut block_sizes = [0u32; N];
+    let count = get_blocks(offsets, sizes, &mut block_offsets, &mut block_sizes)?;
+    let blocks = SpanList {
+        offsets: &block_offsets[..count],
+        sizes: &block_sizes[..count],
+    };
+    format_blocks(image, blocks, address_unit, out)
 }
 
 // Intel HEX records of the blocks that the spans make, and the end record. A span is an offset, with
 // 4294967295 for an absent one, and a size, in two slices of one length.
+#[tactic(auto, using(outcome::proofs::Outcome::inside, span_range::proofs::Good::short_list), unfolding(crate::specs::Hex::hex_outcome))]
 pub fn format_intelhex(
     image: Image,
     offsets: &[u32],
@@ -142,7 +72,7 @@ pub fn format_intelhex(
         return Err(Refusal::OptionRange);
     }
     if offsets.len() <= 64 {
-        return format_few(image, offsets, sizes, address_unit, out);
+        return format_spans::<64>(image, offsets, sizes, address_unit, out);
     }
-    format_many(image, offsets, sizes, address_unit, out)
+    format_spans::<4096>(image, offsets, sizes, address_unit, out)
 }

@@ -10,6 +10,6 @@ returns c =
     let two = c.format_intelhex-two in record {
       first = one.ensures;
       second = two.ensures;
-      rule = calls_rule a.first.now a.bits a.second.now a.bits2 a.offsets.now a.sizes.now a.unit one.result two.result
+      rule = calls_rule a.first.bytes.now a.first.len a.second.bytes.now a.second.len a.offsets.now a.sizes.now a.unit one.result two.result
           a.out.now one.new.out a.out2.now two.new.out one.ensures two.ensures;
     }
