@@ -3,7 +3,10 @@ use Rattle.std.specs.Prelude.{Bool, false, cond, not, List, [], ◌∷◌, ℕ, 
 use Rattle.bitvec.specs.Bits.{byte_at}
 use Rattle.bitvec.specs.Size.{bad_size, ceil_div}
 use Rattle.output.specs.Pieces.{pieces}
+use Rattle.std.specs.Prelude.{Result, Ok, Err}
+use Rattle.outcome.specs.declared.Refusal.{Refusal}
 use Rattle.outcome.specs.Outcome.{Outcome, text, refused, in_room}
+use Rattle.format_plain.specs.declared.binary.Binary.{Binary}
 
 -- The image's bytes, the last one filled with zeros.
 unfoldable pub binary_text : List ℕ → ℕ → List ℕ
@@ -16,3 +19,8 @@ binary_outcome bytes len room = cond (bad_size bytes len) (refused 1 0) (in_room
 abbrev pub padded_in : Outcome → ℕ → Bool
 padded_in (text t) len = not (eqb (len % 8) 0)
 padded_in (refused n v) len = false
+
+-- What the answer tells of it: the flag that comes with a text.
+abbrev pub padding_told : Result Binary Refusal → Bool
+padding_told (Ok b) = b.padded
+padding_told (Err r) = false

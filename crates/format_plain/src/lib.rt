@@ -5,5 +5,5 @@
 mod binary;
 mod digit_str;
 
-pub use binary::{BinaryExport, format_binary};
+pub use binary::{Binary, format_binary};
 pub use digit_str::{format_binstr, format_hexstr, format_str};

@@ -16,8 +16,8 @@ use Rattle.digits.specs.Run.{digit_at, run, short_digit, hex_line}
 use Rattle.digits.proofs.Run.{run_none}
 use Rattle.digit_lines.specs.Lines.{lines_text}
 use Rattle.image_parts.specs.Parts.{part_bits}
-use Rattle.format_readmem.specs.declared.Readmem.{Readmem}
-use Rattle.format_readmem.specs.declared.Readmem.TheVariants.{Binary, Hex}
+use Rattle.rows.specs.declared.ByteDigits.{ByteDigits}
+use Rattle.rows.specs.declared.ByteDigits.TheVariants.{Binary, Hex}
 use Rattle.format_readmem.specs.Readmem.{line_text, line_at}
 use Rattle.format_readmem.specs.Runs.{Runs}
 
@@ -56,7 +56,7 @@ runs_short width h l =
     )
 
 -- Such lines that the image fills.
-pub narrow_lines : (kind : Readmem) (bytes : List ℕ) (len width w n : ℕ) → Runs kind width w → n * width ≤ len
+pub narrow_lines : (kind : ByteDigits) (bytes : List ℕ) (len width w n : ℕ) → Runs kind width w → n * width ≤ len
     → lines_text bytes len w 0 (width / w) 10 n ≡ pieces (line_at kind bytes len width) n
 unfolding lines_text line_at part_bits
 narrow_lines kind bytes len width w n r h =

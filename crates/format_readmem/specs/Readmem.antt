@@ -6,23 +6,23 @@ use Rattle.output.specs.Pieces.{pieces}
 use Rattle.outcome.specs.Outcome.{Outcome, refused, outside, in_room}
 use Rattle.digits.specs.Run.{run, hex_line}
 use Rattle.image_parts.specs.Parts.{part_bits}
-use Rattle.format_readmem.specs.declared.Readmem.{Readmem}
-use Rattle.format_readmem.specs.declared.Readmem.TheVariants.{Binary, Hex}
+use Rattle.rows.specs.declared.ByteDigits.{ByteDigits}
+use Rattle.rows.specs.declared.ByteDigits.TheVariants.{Binary, Hex}
 
 -- m bits from bit i on: each bit a digit, or in hexadecimal, where a line that is not a multiple of 4 bits starts with a short digit.
-unfoldable pub line_text : Readmem → List ℕ → ℕ → ℕ → ℕ → List ℕ
+unfoldable pub line_text : ByteDigits → List ℕ → ℕ → ℕ → ℕ → List ℕ
 line_text Binary bytes len i m = run bytes len 1 i m
 line_text Hex bytes len i m = hex_line bytes len i m
 
 -- Line i with its newline, the last one perhaps shorter.
-unfoldable pub line_at : Readmem → List ℕ → ℕ → ℕ → ℕ → List ℕ
+unfoldable pub line_at : ByteDigits → List ℕ → ℕ → ℕ → ℕ → List ℕ
 line_at kind bytes len width i = line_text kind bytes len (i * width) (part_bits len width i) ++ ascii "\n"
 
 -- A line for each width bits.
-unfoldable pub readmem_text : Readmem → List ℕ → ℕ → ℕ → List ℕ
+unfoldable pub readmem_text : ByteDigits → List ℕ → ℕ → ℕ → List ℕ
 readmem_text kind bytes len width = pieces (line_at kind bytes len width) (ceil_div len width)
 
-unfoldable pub readmem_outcome : Readmem → List ℕ → ℕ → ℕ → ℕ → Outcome
+unfoldable pub readmem_outcome : ByteDigits → List ℕ → ℕ → ℕ → ℕ → Outcome
 readmem_outcome kind bytes len width room =
     cond (bad_size bytes len) (refused 1 0)
     (cond (outside 1 4096 width) (refused 2 0)

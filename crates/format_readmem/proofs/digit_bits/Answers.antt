@@ -4,12 +4,8 @@ use native.Mathlib.Omega.{arith}
 use Rattle.format_readmem.proofs.Narrow.{runs_binary}
 use Rattle.format_readmem.proofs.digit_bits.Goals as goal
 
-pub returns-then-width-gt128 : goal.returns-then-width-gt128
-returns-then-width-gt128 c = (omega arith, λ h. absurd (omega arith))
-
 pub returns-in-Binary : goal.returns-in-Binary
-returns-in-Binary c =
-    (omega arith, λ h. rw c.in-Binary.is (runs_binary c.args.width c.requires (omega (arith, c.if-width-gt128.false))))
+returns-in-Binary c = (omega arith, omega arith, rw c.in-Binary.is (runs_binary c.args.width c.requires (omega (arith, c.if-width-gt128.false))))
 
 pub returns-in-Hex : goal.returns-in-Hex
 returns-in-Hex c = rw c.in-Hex.is c.hex_bits.ensures

@@ -13,7 +13,7 @@ use Rattle.format_plain.specs.Binary.{binary_text}
 use Rattle.format_plain.proofs.binary.write_binary.Goals as goal
 
 -- one byte more, where the whole ones are not all
-one_more : (bits : ℕ) → (ceil_div bits 8 ≡ bits / 8 → ⊥) → ceil_div bits 8 ≡ bits / 8 + 1
+one_more : (bits : ℕ) → (bits / 8 ≡ ceil_div bits 8 → ⊥) → ceil_div bits 8 ≡ bits / 8 + 1
 unfolding ceil_div
 one_more bits n = omega arith
 
@@ -21,39 +21,18 @@ pub put_whole-next-requires : goal.put_whole-next-requires
 unfolding ceil_div
 put_whole-next-requires c = search rules
 
-pub returns-then-next-count : goal.returns-then-next-count
+pub returns-then-whole-count : goal.returns-then-whole-count
 unfolding binary_text
-returns-then-next-count c =
-    let whole_next : c.put_whole-next.result ≡ c.args.bits / 8 = let a = c.args in
-    omega (arith, c.put_whole-next.ensures.next, pieces_length (λ k. byte_at a.image.now a.bits k ∷ []) 1 (a.bits / 8) (λ i h. refl)) in
-    let all : c.args.bits / 8 ≡ ceil_div c.args.bits 8 = sym (whole_next) ∙ c.if-next-count.true ∙ c.requires.0 in
-    rw (← all) c.put_whole-next.ensures
-
-pub overflow_mul-next : goal.overflow_mul-next
-overflow_mul-next c =
-    let whole_next : c.put_whole-next.result ≡ c.args.bits / 8 = let a = c.args in
-    omega (arith, c.put_whole-next.ensures.next, pieces_length (λ k. byte_at a.image.now a.bits k ∷ []) 1 (a.bits / 8) (λ i h. refl)) in
-    record { fits = omega (arith, whole_next, c.requires.2) }
-
-pub read_byte-byte-requires : goal.read_byte-byte-requires
-read_byte-byte-requires c =
-    let whole_next : c.put_whole-next.result ≡ c.args.bits / 8 = let a = c.args in
-    omega (arith, c.put_whole-next.ensures.next, pieces_length (λ k. byte_at a.image.now a.bits k ∷ []) 1 (a.bits / 8) (λ i h. refl)) in
-    omega (arith, whole_next, c.requires.2)
+returns-then-whole-count c = rw (← c.requires.0, ← c.if-whole-count.true) c.put_whole-next.ensures
 
 pub put-requires : goal.put-requires
 unfolding ceil_div
 put-requires c =
-    let whole_next : c.put_whole-next.result ≡ c.args.bits / 8 = let a = c.args in
-    omega (arith, c.put_whole-next.ensures.next, pieces_length (λ k. byte_at a.image.now a.bits k ∷ []) 1 (a.bits / 8) (λ i h. refl)) in
-    omega (arith, whole_next, writes_length c.put_whole-next.ensures, c.requires.0, c.requires.1, c.if-next-count.false)
+    let a = c.args in
+    omega (arith, c.put_whole-next.ensures.next, pieces_length (λ k. byte_at a.image.bytes.now a.image.len k ∷ []) 1 (a.image.len / 8) (λ i h. refl), writes_length c.put_whole-next.ensures, c.requires.0, c.requires.1, c.if-whole-count.false)
 
 pub returns : goal.returns
 unfolding binary_text
 returns c =
-    let whole_next : c.put_whole-next.result ≡ c.args.bits / 8 = let a = c.args in
-    omega (arith, c.put_whole-next.ensures.next, pieces_length (λ k. byte_at a.image.now a.bits k ∷ []) 1 (a.bits / 8) (λ i h. refl)) in
-    let a = c.args in
-    let more = one_more a.bits (λ e. c.if-next-count.false (whole_next ∙ sym e ∙ sym c.requires.0)) in
-    let byte = rw (whole_next) at c.read_byte-byte.ensures in
-    rw (more, pieces_next, ← byte) (writes_then c.put_whole-next.ensures c.put.ensures)
+    let more = one_more c.args.image.len (λ e. c.if-whole-count.false (e ∙ sym c.requires.0)) in
+    rw (more, pieces_next, ← c.read_byte-byte.ensures) (writes_then c.put_whole-next.ensures c.put.ensures)
