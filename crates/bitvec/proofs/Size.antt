@@ -1,15 +1,15 @@
 -- Laws of an image's size and of division rounded up.
 -- Assumes nothing.
-use mathlib.Core.Path.{◌≡◌}
-use mathlib.Core.Bool.{false}
+use mathlib.Core.Path.{◌≡◌, refl}
+use mathlib.Core.Bool.{Bool, true, false}
 use mathlib.Core.List.{List}
 use mathlib.Mathlib.Data.Bool.Basic.{or-eq-false-eq-eq-false-and-eq-false}
-use Prim.Native.Nat.{ℕ, ◌+◌, ◌-◌, ◌*◌, ◌/◌, ◌%◌, ◌<◌, ◌≤◌}
+use Prim.Native.Nat.{ℕ, ◌+◌, ◌-◌, ◌*◌, ◌/◌, ◌%◌, ◌<◌, ◌≤◌, min}
 use native.Mathlib.Omega.{arith}
 use native.Mathlib.Nat.{div-add-mod', mod-lt, div-mul-le_self, le-div_iff_mul-le, div-lt_iff_lt-mul, div-eq_of_lt-le, mul-le-mul_left, suc-mul}
 use lib.Dec.{ltb}
 use lib.ListN.{length}
-use borrow.Author.Tests.{ltb-false}
+use borrow.Author.Tests.{ltb-true, ltb-false, lt-ltb, le-ltb}
 use Rattle.bitvec.specs.Size.{max_bits, bad_size, ceil_div}
 
 -- An image that passes the size check is within the largest image and within its bytes.
@@ -53,3 +53,19 @@ ceil_short n d h e =
     let one_more = suc-mul (n / d) d in
     let two-more = suc-mul (n / d + 1) d in
     div-eq_of_lt-le d (omega arith) (omega arith)
+
+-- The library's quotient, rounded up, is this one.
+pub ceil_rounded : (n d : ℕ) → 0 < d → n / d + min 1 (n % d) ≡ ceil_div n d
+ceil_rounded n d h = go (ltb 0 (n % d)) refl
+  where
+    go : (t : Bool) → ltb 0 (n % d) ≡ t → n / d + min 1 (n % d) ≡ ceil_div n d
+    go true e = omega (arith, ceil_short n d h (ltb-true 0 (n % d) e), ltb-true 0 (n % d) e)
+    go false e = omega (arith, ceil_whole n d h (omega (arith, ltb-false 0 (n % d) e)), ltb-false 0 (n % d) e)
+
+-- Fewer bytes than the bits fill, rounded up, are fewer bits.
+pub few_bytes : (n len : ℕ) → ltb n (len / 8 + min 1 (len % 8)) ≡ ltb (8 * n) len
+few_bytes n len = go (ltb (8 * n) len) refl
+  where
+    go : (t : Bool) → ltb (8 * n) len ≡ t → ltb n (len / 8 + min 1 (len % 8)) ≡ t
+    go true e = lt-ltb n (len / 8 + min 1 (len % 8)) (omega (arith, ltb-true (8 * n) len e))
+    go false e = le-ltb n (len / 8 + min 1 (len % 8)) (omega (arith, ltb-false (8 * n) len e))

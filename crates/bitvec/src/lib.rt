@@ -132,7 +132,7 @@ pub fn parts(len: usize, width: usize) -> usize
     requires { (0 < width) × (len + width ≤ 2 ^ 64) }
     ensures { result ≡ ceil_div len width }
 {
-    (len + (width - 1)) / width
+    len.div_ceil(width)
 }
 
 // Eight bytes as one number, the first byte highest.

@@ -3,13 +3,20 @@
 use mathlib.Core.Path.{◌≡◌, refl, ◌∙◌}
 use mathlib.Core.Bool.{Bool, true, false, cond}
 use mathlib.Core.List.{List, ◌++◌}
-use Prim.Native.Nat.{ℕ, ◌+◌, ◌-◌, ◌*◌, ◌/◌, ◌%◌, ◌≤◌, ◌<◌}
+use Prim.Native.Nat.{ℕ, zero, suc, ◌+◌, ◌-◌, ◌*◌, ◌/◌, ◌%◌, ◌≤◌, ◌<◌}
 use native.Mathlib.Omega.{arith}
 use lib.Dec.{eqb}
-use lib.ListN.{length, length-append}
+use native.Mathlib.Nat.{suc-mul}
+use lib.ListN.{length, take, drop, get_or, length-append}
+use lib.Seq.{take-suc, take-add}
+use Rattle.std.specs.Prelude.{sum_by}
+use Rattle.std.specs.Simd.{first_chunks}
+use Rattle.std.proofs.lemmas.List.{take_more}
+use Rattle.std.proofs.lemmas.List.Sums.{sum_by_push, sum_by-append, sum_by-cons}
 use borrow.Author.Tests.{ne_eqb}
 use Rattle.bitvec.specs.Bits.{byte_at}
 use Rattle.bitvec.specs.Size.{ceil_div}
+use Rattle.bitvec.proofs.Words.{byte_whole}
 use Rattle.output.specs.Pieces.{pieces, every}
 use Rattle.output.proofs.Order.{by_order}
 use Rattle.output.proofs.Joined.{joined_length, between_length, every_length}
@@ -31,10 +38,51 @@ decimal_small b h =
     (λ p. omega (arith, count_last 10 b p))
     (λ p. by_order b 100 (λ q. omega (arith, count_two b p q)) (λ q. omega (arith, count_three b q (omega arith))))
 
+-- The digits of some bytes and of one more.
+pub digits_next : (bytes : List ℕ) (i : ℕ) → i < length bytes
+    → sum_by (digit_count 10) (take (i + 1) bytes) ≡ sum_by (digit_count 10) (take i bytes) + digit_count 10 (get_or bytes i 0)
+digits_next bytes i h = rw (take_more bytes i 0 h) (sum_by_push (digit_count 10) (take i bytes) (get_or bytes i 0))
+
+-- The first bytes of an image, which are whole, have the digits of these bytes.
+pub whole_digits : (bytes : List ℕ) (len n : ℕ) → n * 8 ≤ len → n ≤ length bytes → ((k : ℕ) → k < n → get_or bytes k 0 < 256)
+    → sum_by (digit_count 10) (take n bytes) ≡ length (pieces (λ k. byte_in 10 (byte_at bytes len k)) n)
+unfolding pieces
+whole_digits bytes len zero h l small = refl
+whole_digits bytes len (suc n) h l small =
+    let before = pieces (λ k. byte_in 10 (byte_at bytes len k)) n in
+    rw (
+      take-suc bytes n 0 (omega arith),
+      sum_by_push (digit_count 10) (take n bytes) (get_or bytes n 0),
+      length-append before (byte_in 10 (byte_at bytes len n)),
+      byte_whole bytes len n (omega arith) (small n (omega arith)),
+      decimal_length (get_or bytes n 0),
+      whole_digits bytes len n (omega arith) (omega arith) (λ k p. small k (omega arith)),
+    ) refl
+
+-- Those of blocks of n bytes are the digits of as many bytes.
+pub blocks_digits : (n k : ℕ) (bytes : List ℕ) → sum_by (sum_by (digit_count 10)) (first_chunks n k bytes) ≡ sum_by (digit_count 10) (take (k * n) bytes)
+blocks_digits n zero bytes =
+    let none : zero * n ≡ 0 = omega arith in
+    rw none refl
+blocks_digits n (suc k) bytes =
+    let more : suc k * n ≡ n + k * n = omega (arith, suc-mul k n) in
+    rw (
+      more,
+      take-add n (k * n) bytes,
+      sum_by-append (digit_count 10) (take n bytes) (take (k * n) (drop n bytes)),
+      sum_by-cons (sum_by (digit_count 10)) (take n bytes) (first_chunks n k (drop n bytes)),
+      blocks_digits n k (drop n bytes),
+    ) refl
+
 -- In any other it has four characters.
 pub hex_length : (radix b : ℕ) → (radix ≡ 10 → ⊥) → length (byte_in radix b) ≡ 4
 unfolding byte_in byte_text
 hex_length radix b h = simp (ne_eqb radix 10 h)
+
+-- Any radix but 10 writes a byte as radix 16 does, so the two of the code's enum are all.
+pub hex_alike : (radix b : ℕ) → (radix ≡ 10 → ⊥) → byte_in radix b ≡ byte_in 16 b
+unfolding byte_in
+hex_alike radix b h = simp (ne_eqb radix 10 h) refl
 
 -- The list: its bytes and what stands between them, where all lines start with texts of one length.
 pub list_length : (radix : ℕ) (s : List ℕ) (line : ℕ → List ℕ) (bytes : List ℕ) (len start : ℕ)

@@ -6,6 +6,13 @@ use Rattle.output.specs.Ascii.{ascii}
 use Rattle.output.specs.Pieces.{joined, every}
 use Rattle.numbers.specs.declared.Letters.TheVariants.{Lower}
 use Rattle.numbers.specs.Digits.{byte_text, number_text}
+use Rattle.byte_list.specs.declared.ByteRadix.{ByteRadix}
+use Rattle.byte_list.specs.declared.ByteRadix.TheVariants.{Decimal, Hex}
+
+-- The number of a radix, as a caller gives it.
+abbrev pub radix_number : ByteRadix → ℕ
+radix_number Decimal = 10
+radix_number Hex = 16
 
 -- A radix other than 10 and 16 is outside its range.
 unfoldable pub bad_radix : ℕ → Bool

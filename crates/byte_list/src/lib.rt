@@ -2,22 +2,34 @@
 // its length. The memory initialization file reads its bytes here too.
 #![tactic(auto)]
 
-ghost use Rattle.std.specs.Prelude.{◌≡◌, List, ℕ, ◌+◌, ◌*◌, ◌/◌, ◌≤◌, ◌<◌, ◌^◌, min, length};
+ghost use Rattle.std.specs.Prelude.{◌≡◌, true, false, List, ℕ, ◌+◌, ◌*◌, ◌/◌, ◌≤◌, ◌<◌, ◌^◌, min, length, sum_by, MatchOption};
 ghost use Rattle.bitvec.specs.Bits.{byte_at};
 ghost use Rattle.bitvec.specs.Size.{ceil_div};
 ghost use Rattle.output.specs.Pieces.{pieces};
-ghost use Rattle.byte_list.specs.Bytes.{bad_radix, byte_in, byte_list};
+ghost use Rattle.numbers.specs.Digits.{digit_count};
+ghost use Rattle.byte_list.specs.Bytes.{radix_number, bad_radix, byte_in, byte_list};
 
 use bitvec::{BitOffset, Image};
 
-// Whether a radix is outside its range.
-pub fn bad_radix(radix: usize) -> bool
-    ensures { result ≡ bad_radix radix }
-{
-    if radix == 10 {
-        return false;
+// The radix of a list's bytes.
+#[derive(Clone, Copy)]
+pub enum ByteRadix {
+    Decimal,
+    Hex,
+}
+
+impl ByteRadix {
+    // The radix that a number names. Any but 10 and 16 is outside its range.
+    #[tactic(auto, unfolding(crate::specs::Bytes::bad_radix))]
+    pub fn new(number: usize) -> Option<ByteRadix>
+        ensures { MatchOption result (bad_radix number ≡ true) (λ r. (radix_number r ≡ number) × (bad_radix number ≡ false)) }
+    {
+        match number {
+            10 => Some(ByteRadix::Decimal),
+            16 => Some(ByteRadix::Hex),
+            _ => None,
+        }
     }
-    radix != 16
 }
 
 // How many of the first `count` bytes are whole: within the bit length, and lent.
@@ -38,88 +50,80 @@ pub fn byte_of(image: Image, whole: usize, k: usize) -> u8
     image.read_byte(BitOffset(k * 8))
 }
 
-// The length of 64 bytes from `first` on in radix 10, which are whole. A sum of one byte lets the
-// compiler add many at once.
-fn block_length(image: Image, first: usize) -> u8
-    requires { ((first + 64) * 8 ≤ image.len) × (first + 64 ≤ length image.bytes.now) }
-    ensures { (result ≡ length (pieces (λ k. byte_in 10 (byte_at image.entry.bytes.now image.entry.len (first + k))) 64)) × (result ≤ 192) }
+// The length of 64 bytes in radix 10. A sum of one byte lets the compiler add many at once.
+#[tactic(auto, using(crate::proofs::Lengths::decimal_small, crate::proofs::Lengths::digits_next))]
+fn block_length(block: &[u8; 64]) -> u8
+    ensures { (result ≡ sum_by (digit_count 10) block.now) × (result ≤ 192) }
 {
     let mut total: u8 = 0;
-    let mut k = 0;
-    while k < 64 {
-        total += numbers::decimal_count(image.bytes[first + k]) as u8;
-        k += 1;
+    for &byte in block {
+        total += numbers::decimal_count(byte) as u8;
     }
     total
 }
 
-// The length of the first `count` blocks of 64 bytes in radix 10, which are whole.
-fn blocks_length(image: Image, count: usize) -> usize
-    requires { (count < 2 ^ 32) × (count * 64 * 8 ≤ image.len) × (count * 64 ≤ length image.bytes.now) }
-    ensures { (result ≡ length (pieces (λ k. byte_in 10 (byte_at image.entry.bytes.now image.entry.len k)) (count * 64))) × (result ≤ count * 192) }
+// The length of whole bytes in radix 10: of blocks, and of those behind the last block.
+#[tactic(auto, using(crate::proofs::Lengths::decimal_small, crate::proofs::Lengths::digits_next))]
+fn digits_length(bytes: &[u8]) -> usize
+    requires { length bytes.now < 2 ^ 32 }
+    ensures { (result ≡ sum_by (digit_count 10) bytes.now) × (result ≤ length bytes.now * 8) }
 {
+    let (blocks, rest) = bytes.as_chunks::<64>();
     let mut total: usize = 0;
-    let mut i = 0;
-    while i < count {
-        total += block_length(image, i * 64) as usize;
-        i += 1;
+    for block in blocks {
+        total += block_length(block) as usize;
+    }
+    for &byte in rest {
+        total += numbers::decimal_count(byte);
     }
     total
 }
 
-// The length of the first `count` bytes in radix 10, which are whole.
-fn whole_length(image: Image, count: usize) -> usize
-    requires { (count < 2 ^ 32) × (count * 8 ≤ image.len) × (count ≤ length image.bytes.now) }
-    ensures { (result ≡ length (pieces (λ k. byte_in 10 (byte_at image.entry.bytes.now image.entry.len k)) count)) × (result ≤ count * 8) }
+// The length of the first `count` bytes in radix 10, which are whole in an image of `len` bits.
+fn whole_length(bytes: &[u8], len: usize, count: usize) -> usize
+    requires { (count < 2 ^ 32) × (count * 8 ≤ len) × (count ≤ length bytes.now) }
+    ensures { (result ≡ length (pieces (λ k. byte_in 10 (byte_at bytes.now len k)) count)) × (result ≤ count * 8) }
 {
-    let blocks = count / 64;
-    let mut total = blocks_length(image, blocks);
-    let mut k = blocks * 64;
-    while k < count {
-        total += numbers::decimal_count(image.bytes[k]);
-        k += 1;
-    }
-    total
+    digits_length(&bytes[..count])
 }
 
 // The length of the first `count` bytes in radix 10, which differ in length: each is measured.
+#[tactic(auto, using(crate::proofs::Lengths::decimal_small))]
 fn decimal_length(image: Image, count: usize) -> usize
     requires { count < 2 ^ 32 }
     ensures { (result ≡ length (pieces (λ k. byte_in 10 (byte_at image.entry.bytes.now image.entry.len k)) count)) × (result ≤ count * 8) }
 {
     let whole = whole_bytes(image, count);
-    let mut total = whole_length(image, whole);
-    let mut k = whole;
-    while k < count {
+    let mut total = whole_length(image.bytes, image.len, whole);
+    for k in whole..count {
         let byte = image.read_byte(BitOffset(k * 8));
         total += numbers::decimal_count(byte);
-        k += 1;
     }
     total
 }
 
 // The length of the first `count` bytes in a radix, without what stands between them.
-fn bytes_length(image: Image, radix: usize, count: usize) -> usize
+fn bytes_length(image: Image, radix: ByteRadix, count: usize) -> usize
     requires { count < 2 ^ 32 }
-    ensures { (result ≡ length (pieces (λ k. byte_in radix (byte_at image.entry.bytes.now image.entry.len k)) count)) × (result ≤ count * 8) }
+    ensures { (result ≡ length (pieces (λ k. byte_in (radix_number radix) (byte_at image.entry.bytes.now image.entry.len k)) count)) × (result ≤ count * 8) }
 {
-    if radix == 10 {
-        return decimal_length(image, count);
+    match radix {
+        ByteRadix::Decimal => decimal_length(image, count),
+        ByteRadix::Hex => count * 4,
     }
-    count * 4
 }
 
 // The length of the list of `count` bytes whose separator has the length `separator` and whose lines
 // start with texts of the length `start`.
 pub fn list_length(
     image: Image,
-    radix: usize,
+    radix: ByteRadix,
     count: usize,
     separator: usize,
     start: usize,
 ) -> usize
     requires { (count < 2 ^ 32) × (count ≡ ceil_div image.len 8) × (separator ≤ 2 ^ 16) × (start ≤ 2 ^ 16) }
-    ensures { ((s : List ℕ) (line : ℕ → List ℕ) → length s ≡ separator → ((k : ℕ) → k < count → length (line k) ≡ start) → length (byte_list radix s line image.entry.bytes.now image.entry.len) ≡ result) × (result < 2 ^ 60) }
+    ensures { ((s : List ℕ) (line : ℕ → List ℕ) → length s ≡ separator → ((k : ℕ) → k < count → length (line k) ≡ start) → length (byte_list (radix_number radix) s line image.entry.bytes.now image.entry.len) ≡ result) × (result < 2 ^ 60) }
 {
     let between = output::between_length(count, 16, separator + start, separator);
     between + bytes_length(image, radix, count)

@@ -4,6 +4,7 @@ use mathlib.Core.Path.{◌≡◌, refl, sym, ap, ◌∙◌}
 use mathlib.Core.Bool.{Bool, true, false, cond}
 use mathlib.Core.List.{List, [], ◌∷◌, ◌++◌}
 use Prim.Native.Nat.{ℕ, zero, suc, ◌+◌, ◌-◌, ◌*◌, ◌/◌, ◌%◌, ◌^◌, ◌<◌, ◌≤◌, min}
+use native.Mathlib.Numerals.{add-one}
 use native.Mathlib.Omega.{arith}
 use native.Mathlib.Nat.{mul-one, add-mul, zero-mul, suc-mul}
 use lib.Pow.{shr-shr}
@@ -13,7 +14,7 @@ use borrow.Author.Tests.{eqb-true, eqb-false}
 use Rattle.output.specs.Pieces.{pieces}
 use Rattle.output.proofs.Order.{stride}
 use Rattle.output.proofs.Pieces.{pieces_none, pieces_next, pieces_append, pieces_equal, pieces_length}
-use Rattle.bitvec.specs.Bits.{bits_at, byte_at}
+use Rattle.bitvec.specs.Bits.{bits_at}
 use Rattle.bitvec.proofs.Bits.{bits_small}
 use Rattle.bitvec.proofs.Words.{bits_within, bits_cut}
 use Rattle.numbers.specs.declared.Letters.TheVariants.{Lower}
@@ -81,11 +82,34 @@ byte_digits_lem b h =
     let second : b / 1 % 2 ^ 4 ≡ b % 16 = omega arith in
     rw (first, second)
 
--- A byte is a run of digits.
-byte_run : (kind : ByteDigits) (bytes : List ℕ) (len i : ℕ) → byte_digits kind (byte_at bytes len i) ≡ run bytes len (digit_bits kind) (i * 8) (digits_per_byte kind)
+-- A byte is a run of digits, wherever it begins.
+byte_run : (kind : ByteDigits) (bytes : List ℕ) (len i : ℕ) → byte_digits kind (bits_at bytes len i 8) ≡ run bytes len (digit_bits kind) i (digits_per_byte kind)
 unfolding byte_digits
-byte_run Binary bytes len i = sym (run_number bytes len 1 (i * 8) 8)
-byte_run Hex bytes len i = byte_digits_lem (byte_at bytes len i) (bits_small bytes len (i * 8) 8) ∙ sym (run_number bytes len 4 (i * 8) 2)
+byte_run Binary bytes len i = sym (run_number bytes len 1 i 8)
+byte_run Hex bytes len i = byte_digits_lem (bits_at bytes len i 8) (bits_small bytes len i 8) ∙ sym (run_number bytes len 4 i 2)
+
+-- The bits of the digits of whole bytes.
+whole_bits : (kind : ByteDigits) (whole : ℕ) → whole * digits_per_byte kind * digit_bits kind ≡ whole * 8
+whole_bits Binary whole = omega arith
+whole_bits Hex whole = omega arith
+
+-- The digits of a byte more.
+pub byte_next : (kind : ByteDigits) (bytes : List ℕ) (len i k : ℕ)
+    → run bytes len (digit_bits kind) i ((k + 1) * digits_per_byte kind)
+    ≡ run bytes len (digit_bits kind) i (k * digits_per_byte kind) ++ byte_digits kind (bits_at bytes len (i + k * 8) 8)
+byte_next kind bytes len i k =
+    let more : (k + 1) * digits_per_byte kind ≡ k * digits_per_byte kind + digits_per_byte kind = omega (arith, suc-mul k (digits_per_byte kind)) in
+    rw (more, run_append bytes len (digit_bits kind) i (k * digits_per_byte kind) (digits_per_byte kind), whole_bits kind k, byte_run kind bytes len (i + k * 8))
+
+-- The digits of some bytes, and those behind them.
+pub whole_rest : (kind : ByteDigits) (bytes : List ℕ) (len i whole count : ℕ) → whole * digits_per_byte kind ≤ count
+    → run bytes len (digit_bits kind) i count
+    ≡ run bytes len (digit_bits kind) i (whole * digits_per_byte kind) ++ run bytes len (digit_bits kind) (i + whole * 8) (count - whole * digits_per_byte kind)
+whole_rest kind bytes len i whole count h =
+    let all : whole * digits_per_byte kind + (count - whole * digits_per_byte kind) ≡ count = omega arith in
+    ap (run bytes len (digit_bits kind) i) (sym all)
+    ∙ run_append bytes len (digit_bits kind) i (whole * digits_per_byte kind) (count - whole * digits_per_byte kind)
+    ∙ rw (whole_bits kind whole)
 
 -- So are whole bytes.
 pub bytes_run : (kind : ByteDigits) (bytes : List ℕ) (len i m : ℕ)
@@ -93,12 +117,8 @@ pub bytes_run : (kind : ByteDigits) (bytes : List ℕ) (len i m : ℕ)
 unfolding bytes_text pieces
 bytes_run kind bytes len i zero = rw zero-mul (sym (run_none bytes len (digit_bits kind) (i * 8)))
 bytes_run kind bytes len i (suc m) =
-    rw (bytes_run kind bytes len i m, byte_run kind bytes len (i + m), suc-mul m (digits_per_byte kind), run_append bytes len (digit_bits kind) (i * 8) (m * digits_per_byte kind) (digits_per_byte kind))
-    (ap (λ (x : ℕ). run bytes len (digit_bits kind) (i * 8) (m * digits_per_byte kind) ++ run bytes len (digit_bits kind) x (digits_per_byte kind)) (place kind))
-  where
-    place : (kind : ByteDigits) → (i + m) * 8 ≡ i * 8 + m * digits_per_byte kind * digit_bits kind
-    place Binary = omega arith
-    place Hex = omega arith
+    let place : i * 8 + m * 8 ≡ (i + m) * 8 = omega arith in
+    rw (bytes_run kind bytes len i m, ← add-one m, byte_next kind bytes len (i * 8) m, place)
 
 -- A byte has digits.
 pub per_some : (kind : ByteDigits) → 0 < digits_per_byte kind
@@ -126,14 +146,8 @@ pub bytes_rest : (kind : ByteDigits) (bytes : List ℕ) (len first whole count :
     → run bytes len (digit_bits kind) (first * 8) count
     ≡ bytes_text kind bytes len first whole ++ run bytes len (digit_bits kind) ((first + whole) * 8) (count - whole * digits_per_byte kind)
 bytes_rest kind bytes len first whole count h =
-    let all : whole * digits_per_byte kind + (count - whole * digits_per_byte kind) ≡ count = omega arith in
-    ap (run bytes len (digit_bits kind) (first * 8)) (sym all)
-    ∙ run_append bytes len (digit_bits kind) (first * 8) (whole * digits_per_byte kind) (count - whole * digits_per_byte kind)
-    ∙ rw (bytes_run kind bytes len first whole, place kind)
-  where
-    place : (kind : ByteDigits) → first * 8 + whole * digits_per_byte kind * digit_bits kind ≡ (first + whole) * 8
-    place Binary = omega arith
-    place Hex = omega arith
+    let place : first * 8 + whole * 8 ≡ (first + whole) * 8 = omega arith in
+    rw (whole_rest kind bytes len (first * 8) whole count h, place, bytes_run kind bytes len first whole)
 
 -- Eight digits that lie in eight whole bytes, cut out of the number that these make.
 pub word_run : (bytes : List ℕ) (len n at shift w word : ℕ) → word ≡ bits_at bytes n (at * 8) 64 → shift + 8 * w ≤ 64 → at * 8 + 64 ≤ len → at * 8 + 64 ≤ n

@@ -27,6 +27,7 @@ fn digit_word(byte: u8) -> u64
 }
 
 // Stores the eight bytes of a word, the lowest first.
+#[tactic(auto, using(crate::proofs::Word::le_bytes))]
 pub fn put_word(out: &mut [u8], at: usize, word: u64) -> usize
     requires { at + 8 ≤ length out.old }
     ensures { Writes (low_bytes word) out.old at out.new result }

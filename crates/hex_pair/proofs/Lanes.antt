@@ -6,6 +6,8 @@ use Prim.Native.Nat.{ℕ, ◌+◌, ◌*◌, ◌/◌, ◌%◌, ◌<◌, ◌≤◌
 use native.Mathlib.Omega.{arith}
 use lib.Bits.{bit_and, and_le_r, and_zero_r, and_block}
 use lib.Dec.{T}
+use lib.ListN.{get_or}
+use Rattle.std.specs.Int.{w32, to_le_bytes}
 use Rattle.output.proofs.Exhaust.{all, same, exhaust}
 use Rattle.numbers.specs.declared.Letters.TheVariants.{Lower}
 use Rattle.numbers.specs.Digits.{digit_char, byte_text}
@@ -85,3 +87,19 @@ digits f g h l =
     let second : w / 256 % 256 ≡ lane f / 256 = omega (arith, lane_small f, lane_small g) in
     let first : w % 256 ≡ lane f % 256 = omega (arith, lane_small f, lane_small g) in
     rw (first, second, third, fourth) (ap₂ (λ (s t : List ℕ). s ++ t) (lane_digits f h) (lane_digits g l))
+
+-- The library's bytes of a word, the lowest first.
+pub le_bytes : (v : ℕ) → to_le_bytes w32 (v % 4294967296) ≡ four_bytes v
+unfolding four_bytes
+le_bytes v =
+    let second : v % 4294967296 / 256 % 256 ≡ v / 256 % 256 = omega arith in
+    let third : v % 4294967296 / 65536 % 256 ≡ v / 65536 % 256 = omega arith in
+    let fourth : v % 4294967296 / 16777216 % 256 ≡ v / 16777216 % 256 = omega arith in
+    let first : v % 4294967296 % 256 ≡ v % 256 = omega arith in
+    rw (first, second, third, fourth)
+
+-- The four digits of two bytes, parted by a character behind each byte.
+pub parted : (r : List ℕ) (x f g : ℕ) → r ≡ byte_text Lower f ++ byte_text Lower g
+    → get_or r 0 0 ∷ get_or r 1 0 ∷ x ∷ get_or r 2 0 ∷ get_or r 3 0 ∷ x ∷ [] ≡ (byte_text Lower f ++ (x ∷ [])) ++ (byte_text Lower g ++ (x ∷ []))
+unfolding byte_text
+parted r x f g e = rw e

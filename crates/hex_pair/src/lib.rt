@@ -19,15 +19,20 @@ fn pair_word(first: u8, second: u8) -> u64
     halves + 0x3030_3030 + letters * 39
 }
 
+// The four lowest bytes of a word, the lowest first.
+#[tactic(auto, using(crate::proofs::Lanes::le_bytes))]
+fn low_four(word: u64) -> [u8; 4]
+    ensures { result ≡ four_bytes word }
+{
+    ((word % 0x1_0000_0000) as u32).to_le_bytes()
+}
+
 // Stores the four lowest bytes of a word, the lowest first.
 pub fn put_four(out: &mut [u8], at: usize, word: u64) -> usize
     requires { at + 4 ≤ length out.old }
     ensures { Writes (four_bytes word) out.old at out.new result }
 {
-    let mut next = output::put(out, at, (word % 256) as u8);
-    next = output::put(out, next, ((word >> 8) % 256) as u8);
-    next = output::put(out, next, ((word >> 16) % 256) as u8);
-    output::put(out, next, ((word >> 24) % 256) as u8)
+    output::put_all(out, at, &low_four(word))
 }
 
 // Stores two bytes as two hexadecimal digits each.
@@ -43,11 +48,6 @@ pub fn put_parted(out: &mut [u8], at: usize, first: u8, second: u8, tail: u8) ->
     requires { at + 6 ≤ length out.old }
     ensures { Writes ((byte_text Lower first ++ (tail ∷ [])) ++ (byte_text Lower second ++ (tail ∷ []))) out.old at out.new result }
 {
-    let digits = pair_word(first, second);
-    let mut next = output::put(out, at, (digits % 256) as u8);
-    next = output::put(out, next, ((digits >> 8) % 256) as u8);
-    next = output::put(out, next, tail);
-    next = output::put(out, next, ((digits >> 16) % 256) as u8);
-    next = output::put(out, next, ((digits >> 24) % 256) as u8);
-    output::put(out, next, tail)
+    let [a, b, c, d] = low_four(pair_word(first, second));
+    output::put_all(out, at, &[a, b, tail, c, d, tail])
 }

@@ -1,12 +1,13 @@
--- Runs of stores side by side, of which the one behind is made first.
+-- Texts stored from the back.
 -- Assumes nothing.
 use mathlib.Core.Path.{◌≡◌, refl, ap, ◌∙◌}
 use mathlib.Core.List.{List, [], ◌∷◌, ◌++◌}
 use Prim.Native.Nat.{ℕ, suc, ◌+◌, ◌<◌}
 use native.Mathlib.Omega.{arith}
 use native.Mathlib.Nat.{add-zero}
-use lib.ListN.{length, set}
+use lib.ListN.{length, set, length-append}
 use lib.Seq.{sets, set_comm}
+use Rattle.output.specs.Writes.{Writes}
 
 -- A store before a run can be made before it.
 set_earlier : (t l : List ℕ) (i j x : ℕ) → i < j → set (sets l j t) i x ≡ sets (set l i x) j t
@@ -21,3 +22,17 @@ sets_earlier (x ∷ a) b l i =
     ap (λ (m : List ℕ). sets m (suc i) a) (set_earlier b l i (i + suc (length a)) x (omega arith))
     ∙ ap (λ (k : ℕ). sets (sets (set l i x) k b) (suc i) a) next
     ∙ sets_earlier a b (set l i x) (suc i)
+
+-- One writer after another that wrote behind it.
+pub writes_earlier : {a b l₀ l₁ l₂ : List ℕ} {at place end r : ℕ} → Writes b l₀ place l₁ end → Writes a l₁ at l₂ r → place ≡ at + length a → Writes (a ++ b) l₀ at l₂ end
+writes_earlier {a} {b} {l₀} {at = at} p q e =
+    record {
+      next = simp length-append (omega (arith, p.next, e));
+      stored = q.stored ∙ ap (λ (m : List ℕ). sets m at a) p.stored ∙ rw e (sets_earlier a b l₀ at);
+    }
+
+-- A text begins at the place that is as far before its end as it is long.
+pub writes_at : {t l₀ l₁ : List ℕ} {place end : ℕ} (at : ℕ) → Writes t l₀ place l₁ end → end ≡ at + length t → Writes t l₀ at l₁ end
+writes_at {place = place} at w e =
+    let same : place ≡ at = omega (arith, w.next, e) in
+    rw same at w

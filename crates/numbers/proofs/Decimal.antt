@@ -1,7 +1,6 @@
 -- Laws of a byte in decimal: how many digits it has, and which.
 -- Assumes nothing.
 use mathlib.Core.Path.{◌≡◌}
-use mathlib.Core.Bool.{cond}
 use mathlib.Core.List.{List, [], ◌∷◌}
 use Prim.Native.Nat.{ℕ, suc, ◌+◌, ◌/◌, ◌%◌, ◌-◌, ◌≤◌, ◌<◌}
 use native.Mathlib.Numerals.{add-one}
@@ -11,6 +10,7 @@ use lib.Dec.{ltb}
 use lib.ListN.{set}
 use lib.Seq.{sets, set-set}
 use borrow.Author.Tests.{lt-ltb, le-ltb}
+use Rattle.std.specs.Int.{from_bool}
 use Rattle.output.proofs.Order.{by_order}
 use Rattle.numbers.specs.declared.Letters.TheVariants.{Lower}
 use Rattle.numbers.specs.Digits.{digit_char, digit_count, number_text}
@@ -47,7 +47,7 @@ three_stored l at b h =
     rw (count_three b q h, number_three b q h, add-one at, third)))
 
 -- Where the tens and the ones are: a place further for each digit before them.
-pub tens_place : (b : ℕ) → b < 1000 → cond (ltb 99 b) 1 0 ≡ digit_count 10 b - 2
+pub tens_place : (b : ℕ) → b < 1000 → from_bool (ltb 99 b) ≡ digit_count 10 b - 2
 tens_place b h =
     by_order b 100
     (λ p.
@@ -55,7 +55,7 @@ tens_place b h =
     (by_order b 10 (λ q. omega (arith, count_last 10 b q)) (λ q. omega (arith, count_two b q p))))
     (λ p. simp (lt-ltb 99 b (omega arith)) (omega (arith, count_three b p h)))
 
-pub ones_place : (b : ℕ) → b < 1000 → cond (ltb 99 b) 1 0 + cond (ltb 9 b) 1 0 ≡ digit_count 10 b - 1
+pub ones_place : (b : ℕ) → b < 1000 → from_bool (ltb 99 b) + from_bool (ltb 9 b) ≡ digit_count 10 b - 1
 ones_place b h =
     by_order b 10
     (λ p. simp (le-ltb 99 b (omega arith), le-ltb 9 b (omega arith)) (omega (arith, count_last 10 b p)))

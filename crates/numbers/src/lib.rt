@@ -1,7 +1,7 @@
 // Digits and numbers as text, written into the output buffer.
 #![tactic(auto)]
 
-ghost use Rattle.std.specs.Prelude.{◌≡◌, cond, ◌+◌, ◌≤◌, ◌<◌, max, ltb, length};
+ghost use Rattle.std.specs.Prelude.{◌≡◌, ◌+◌, ◌≤◌, ◌<◌, max, length};
 ghost use Rattle.output.specs.Writes.{Writes};
 ghost use Rattle.numbers.specs.declared.Letters.TheVariants.{Lower};
 ghost use Rattle.numbers.specs.Digits.{letter_ten, digit_char, byte_text, digit_count, number_text, padded};
@@ -69,29 +69,24 @@ pub fn put_byte(out: &mut [u8], at: usize, letters: Letters, byte: u8) -> usize
 pub fn decimal_count(byte: u8) -> usize
     ensures { result ≡ digit_count 10 byte }
 {
-    if byte < 10 {
-        return 1;
+    match byte {
+        0..=9 => 1,
+        10..=99 => 2,
+        _ => 3,
     }
-    if byte < 100 { 2 } else { 3 }
-}
-
-// One where a byte is above a limit, and zero where not.
-fn above(limit: u8, byte: u8) -> usize
-    ensures { result ≡ cond (ltb limit byte) 1 0 }
-{
-    if limit < byte { 1 } else { 0 }
 }
 
 // Stores a byte in decimal, with no padding. Each of the three digits is stored, at a place that
 // the next one takes where it is not to be seen, so that no branch goes by the byte.
+#[tactic(auto, using(crate::proofs::Decimal::tens_place, crate::proofs::Decimal::ones_place, crate::proofs::Digits::count_some))]
 pub fn put_decimal(out: &mut [u8], at: usize, byte: u8) -> usize
     requires { at + digit_count 10 byte ≤ length out.old }
     ensures { Writes (number_text Lower 10 byte) out.old at out.new result }
 {
     let hundreds = byte / 100;
     let tens = byte / 10;
-    let middle = at + above(99, byte);
-    let last = middle + above(9, byte);
+    let middle = at + usize::from(99 < byte);
+    let last = middle + usize::from(9 < byte);
     out[at] = b'0' + hundreds;
     out[middle] = b'0' + (tens - hundreds * 10);
     out[last] = b'0' + (byte - tens * 10);
@@ -112,20 +107,12 @@ pub fn digit_count(value: u64, radix: u64) -> usize
     count
 }
 
-// Stores a number that has `count` digits in a radix of 2 to 36. The last digit is found first, so
-// the digits are stored from the back.
-fn put_counted(
-    out: &mut [u8],
-    at: usize,
-    letters: Letters,
-    value: u64,
-    radix: Radix,
-    count: usize,
-) -> usize
-    requires { (count ≡ digit_count radix.value value) × (at + count ≤ length out.old) }
-    ensures { Writes (number_text letters radix.value value) out.old at out.new result }
+// Stores a number so that it ends before `end`, and answers where it begins. The last digit is found
+// first, so the digits are stored from the back.
+fn put_before(out: &mut [u8], end: usize, letters: Letters, value: u64, radix: Radix) -> usize
+    requires { (digit_count radix.value value ≤ end) × (end ≤ length out.old) }
+    ensures { Writes (number_text letters radix.value value) out.old result out.new end }
 {
-    let end = at + count;
     let mut place = end;
     let mut rest = value;
     while radix.value <= rest {
@@ -134,21 +121,23 @@ fn put_counted(
         out[place] = digit_char(letters, digit);
         rest = rest / radix.value;
     }
+    place -= 1;
     let first = rest as u8;
-    out[at] = digit_char(letters, first);
-    end
+    out[place] = digit_char(letters, first);
+    place
 }
 
-// Stores a number in a radix of 2 to 36, with no padding.
+// Stores a number, with no padding.
 pub fn put_number(out: &mut [u8], at: usize, letters: Letters, value: u64, radix: Radix) -> usize
     requires { at + digit_count radix.value value ≤ length out.old }
     ensures { Writes (number_text letters radix.value value) out.old at out.new result }
 {
-    let count = digit_count(value, radix.value);
-    put_counted(out, at, letters, value, radix, count)
+    let end = at + digit_count(value, radix.value);
+    put_before(out, end, letters, value, radix);
+    end
 }
 
-// Stores a number in a radix of 2 to 36, filled on its left to a width.
+// Stores a number, filled on its left to a width.
 pub fn put_padded(
     out: &mut [u8],
     at: usize,
@@ -163,7 +152,9 @@ pub fn put_padded(
 {
     let count = digit_count(value, radix.value);
     let next = put_fill(out, at, fill, width.saturating_sub(count));
-    put_counted(out, next, letters, value, radix, count)
+    let end = next + count;
+    put_before(out, end, letters, value, radix);
+    end
 }
 
 // Stores a number whose digits fit in a width, filled on its left to it. The digits are stored from
@@ -181,15 +172,8 @@ pub fn put_column(
     ensures { Writes (padded fill width (number_text letters radix.value value)) out.old at out.new result }
 {
     let end = at + width;
-    let mut place = end - 1;
-    let mut rest = value;
-    while radix.value <= rest {
-        out[place] = digit_char(letters, (rest % radix.value) as u8);
-        place -= 1;
-        rest = rest / radix.value;
-    }
-    out[place] = digit_char(letters, rest as u8);
-    put_fill(out, at, fill, place - at);
+    let first = put_before(out, end, letters, value, radix);
+    put_fill(out, at, fill, first - at);
     end
 }
 
@@ -198,6 +182,6 @@ pub fn put_right(out: &mut [u8], at: usize, s: &[u8], width: usize) -> usize
     requires { at + max width (length s.now) ≤ length out.old }
     ensures { Writes (padded 32 width s.now) out.old at out.new result }
 {
-    let next = output::put_fill(out, at, b' ', width.saturating_sub(s.len()));
+    let next = put_fill(out, at, b' ', width.saturating_sub(s.len()));
     output::put_all(out, next, s)
 }

@@ -1,19 +1,25 @@
 -- Laws of whole bytes in digits.
 -- Assumes nothing.
-use mathlib.Core.Path.{◌≡◌, refl, ap, ◌∙◌}
+use mathlib.Core.Path.{◌≡◌, refl, sym, ap, ap₂, ◌∙◌}
 use mathlib.Core.List.{List, [], ◌++◌, append_assoc}
-use Prim.Native.Nat.{ℕ, ◌+◌, ◌*◌, ◌<◌, ◌≤◌}
+use Prim.Native.Nat.{ℕ, zero, suc, ◌+◌, ◌-◌, ◌*◌, ◌/◌, ◌%◌, ◌<◌, ◌≤◌}
+use native.Mathlib.Nat.{zero-mul, suc-mul, mul-div_cancel}
 use native.Mathlib.Omega.{arith}
-use lib.ListN.{length, length-append, get_or}
-use Rattle.bitvec.specs.Bits.{byte_at}
+use lib.ListN.{length, length-append, get_or, take, drop}
+use lib.Seq.{drop-drop, take-take}
+use borrow.Author.Tests.{lt-ltb}
+use Rattle.std.specs.Simd.{first_chunks}
+use Rattle.std.proofs.lemmas.List.{get_or-take, get_or-drop, length-take, length-drop, drop-take}
+use Rattle.bitvec.specs.Bits.{bit_at, bits_at, byte_at}
 use Rattle.bitvec.proofs.Words.{byte_whole}
 use Rattle.output.specs.Pieces.{pieces}
-use Rattle.output.proofs.Pieces.{pieces_none, pieces_next, pieces_append, pieces_equal, pieces_length}
+use Rattle.output.proofs.Order.{stride}
+use Rattle.output.proofs.Pieces.{pieces_none, pieces_next, pieces_equal, pieces_length}
 use Rattle.numbers.specs.Digits.{byte_text}
 use Rattle.numbers.proofs.Digits.{digits_length}
 use Rattle.rows.specs.declared.ByteDigits.{ByteDigits}
 use Rattle.rows.specs.declared.ByteDigits.TheVariants.{Binary, Hex}
-use Rattle.rows.specs.Rows.{digits_per_byte, byte_digits, bytes_text, rows_text}
+use Rattle.rows.specs.Rows.{digits_per_byte, byte_digits, bytes_text, slice_text, rows_text}
 
 pub byte_length : (kind : ByteDigits) (b : ℕ) → length (byte_digits kind b) ≡ digits_per_byte kind
 unfolding byte_digits byte_text
@@ -34,21 +40,104 @@ pub bytes_length : (kind : ByteDigits) (bytes : List ℕ) (len i m : ℕ) → le
 unfolding bytes_text
 bytes_length kind bytes len i m = pieces_length _ (digits_per_byte kind) m (λ j h. byte_length kind (byte_at bytes len (i + j)))
 
--- Two bytes within the image.
-pub two_text : (kind : ByteDigits) (bytes : List ℕ) (len i : ℕ) → (i + 2) * 8 ≤ len → get_or bytes i 0 < 256 → get_or bytes (i + 1) 0 < 256
-    → bytes_text kind bytes len i 2 ≡ byte_digits kind (get_or bytes i 0) ++ byte_digits kind (get_or bytes (i + 1) 0)
-unfolding bytes_text pieces
-two_text kind bytes len i h l m =
-    let place : i + 0 ≡ i = omega arith in
-    rw (place, byte_whole bytes len i (omega arith) l, byte_whole bytes len (i + 1) (omega arith) m)
+-- The bits of a part of the bytes are bits of the image.
+bit_part : (bytes : List ℕ) (len i n k : ℕ) → (i + n) * 8 ≤ len → k < 8 * n → bit_at (take n (drop i bytes)) (8 * n) k ≡ bit_at bytes len (i * 8 + k)
+unfolding bit_at
+bit_part bytes len i n k h l =
+    let byte : (i * 8 + k) / 8 ≡ i + k / 8 = omega arith in
+    let place : (i * 8 + k) % 8 ≡ k % 8 = omega arith in
+    let same = get_or-take n (drop i bytes) (k / 8) 0 (omega arith) ∙ get_or-drop i bytes (k / 8) 0 in
+    simp (lt-ltb k (8 * n) l, lt-ltb (i * 8 + k) len (omega arith), byte, place, same)
 
--- Four are two and two.
-pub four_text : (kind : ByteDigits) (bytes : List ℕ) (len i : ℕ) → bytes_text kind bytes len i 4 ≡ bytes_text kind bytes len i 2 ++ bytes_text kind bytes len (i + 2) 2
-unfolding bytes_text
-four_text kind bytes len i =
-    pieces_append (λ j. byte_digits kind (byte_at bytes len (i + j))) 2 2
-    ∙ ap (λ (t : List ℕ). pieces (λ j. byte_digits kind (byte_at bytes len (i + j))) 2 ++ t)
-    (pieces_equal _ _ 2 (λ j h. let place : i + (2 + j) ≡ i + 2 + j = omega arith in rw place))
+bits_part : (bytes : List ℕ) (len i n k w : ℕ) → (i + n) * 8 ≤ len → k + w ≤ 8 * n → bits_at (take n (drop i bytes)) (8 * n) k w ≡ bits_at bytes len (i * 8 + k) w
+unfolding bits_at
+bits_part bytes len i n k zero h l = refl
+bits_part bytes len i n k (suc w) h l =
+    let place : i * 8 + (k + w) ≡ i * 8 + k + w = omega arith in
+    rw (bits_part bytes len i n k w h (omega arith), bit_part bytes len i n (k + w) h (omega arith), place)
+
+-- A part of the bytes within the image.
+pub part_text : (kind : ByteDigits) (bytes : List ℕ) (len i n : ℕ) → (i + n) * 8 ≤ len → i + n ≤ length bytes
+    → slice_text kind (take n (drop i bytes)) ≡ bytes_text kind bytes len i n
+unfolding slice_text bytes_text
+part_text kind bytes len i n h l =
+    let long : length (take n (drop i bytes)) ≡ n = omega (arith, length-take n (drop i bytes), length-drop i bytes) in
+    rw long
+    (pieces_equal _ _ n
+    (λ j p.
+    let start : (0 + j) * 8 ≡ j * 8 = omega arith in
+    let place : i * 8 + j * 8 ≡ (i + j) * 8 = omega arith in
+    ap (byte_digits kind) (rw (start, ← place) (bits_part bytes len i n (j * 8) 8 h (omega arith)))))
+
+pub slice_length : (kind : ByteDigits) (bytes : List ℕ) → length (slice_text kind bytes) ≡ length bytes * digits_per_byte kind
+unfolding slice_text
+slice_length kind bytes = bytes_length kind bytes (8 * length bytes) 0 (length bytes)
+
+-- A byte of a part.
+pub part_byte : (bytes : List ℕ) (len i n k : ℕ) → k < n → (i + n) * 8 ≤ len → get_or (take (i + n - i) (drop i bytes)) k 0 < 256
+    → byte_at bytes len (i + k) ≡ get_or (take (i + n - i) (drop i bytes)) k 0
+part_byte bytes len i n k p h l =
+    let same = get_or-take (i + n - i) (drop i bytes) k 0 (omega (arith, p)) ∙ get_or-drop i bytes k 0 in
+    byte_whole bytes len (i + k) (omega (arith, p, h)) (rw same at l) ∙ sym same
+
+-- A slice of one byte, of two and of four.
+pub one_text : (kind : ByteDigits) (s : List ℕ) → length s ≡ 1 → get_or s 0 0 < 256 → slice_text kind s ≡ byte_digits kind (get_or s 0 0)
+unfolding slice_text bytes_text pieces
+one_text kind s e h = rw e (ap (byte_digits kind) (byte_whole s 8 0 (omega arith) h))
+
+pub two_text : (kind : ByteDigits) (s : List ℕ) → length s ≡ 2 → get_or s 0 0 < 256 → get_or s 1 0 < 256
+    → slice_text kind s ≡ byte_digits kind (get_or s 0 0) ++ byte_digits kind (get_or s 1 0)
+unfolding slice_text bytes_text pieces
+two_text kind s e h l =
+    rw e
+    (ap₂ (λ (x y : ℕ). byte_digits kind x ++ byte_digits kind y) (byte_whole s 16 0 (omega arith) h) (byte_whole s 16 1 (omega arith) l))
+
+pub four_text : (kind : ByteDigits) (s : List ℕ) → length s ≡ 4 → get_or s 0 0 < 256 → get_or s 1 0 < 256 → get_or s 2 0 < 256 → get_or s 3 0 < 256
+    → slice_text kind s ≡ (byte_digits kind (get_or s 0 0) ++ byte_digits kind (get_or s 1 0)) ++ (byte_digits kind (get_or s 2 0) ++ byte_digits kind (get_or s 3 0))
+unfolding slice_text bytes_text pieces
+four_text kind s e h l m n =
+    rw (e, byte_whole s 32 0 (omega arith) h, byte_whole s 32 1 (omega arith) l, byte_whole s 32 2 (omega arith) m, byte_whole s 32 3 (omega arith) n)
+    (append_assoc (byte_digits kind (get_or s 0 0) ++ byte_digits kind (get_or s 1 0)) (byte_digits kind (get_or s 2 0)) (byte_digits kind (get_or s 3 0)))
+
+-- A chunk of a slice.
+chunk_at : (n k : ℕ) (xs : List ℕ) (i : ℕ) (d : List ℕ) → i < k → get_or (first_chunks n k xs) i d ≡ take n (drop (i * n) xs)
+chunk_at n zero xs i d h = absurd (omega arith)
+chunk_at n (suc k) xs zero d h = rw zero-mul
+chunk_at n (suc k) xs (suc i) d h =
+    let place : n + i * n ≡ suc i * n = omega (arith, suc-mul i n) in
+    chunk_at n k (drop n xs) i d (omega arith) ∙ ap (take n) (drop-drop (i * n) n xs) ∙ rw place
+
+-- A row of a part of the bytes is a part of them.
+row_text : (kind : ByteDigits) (bytes : List ℕ) (len i m n k : ℕ) (d : List ℕ) → (i + n * m) * 8 ≤ len → i + n * m ≤ length bytes → k < n
+    → slice_text kind (get_or (first_chunks m n (take (n * m) (drop i bytes))) k d) ≡ bytes_text kind bytes len (i + k * m) m
+row_text kind bytes len i m n k d h l p =
+    let room = stride k n m p in
+    let all : k * m + (n * m - k * m) ≡ n * m = omega (arith, room) in
+    let chunk : get_or (first_chunks m n (take (n * m) (drop i bytes))) k d ≡ take m (drop (i + k * m) bytes) =
+    chunk_at m n (take (n * m) (drop i bytes)) k d p
+    ∙ ap (take m) (rw all at (drop-take (k * m) (n * m - k * m) (drop i bytes)))
+    ∙ take-take m (n * m - k * m) (drop (k * m) (drop i bytes)) (omega (arith, room))
+    ∙ ap (take m) (drop-drop (k * m) i bytes) in
+    rw chunk (part_text kind bytes len (i + k * m) m (omega (arith, room, h)) (omega (arith, room, l)))
+
+-- The rows of a part: how many they are, and what each of them is.
+pub rows_count : (bytes : List ℕ) (i m n : ℕ) → 0 < m → i + n * m ≤ length bytes → length (take (i + n * m - i) (drop i bytes)) / m ≡ n
+rows_count bytes i m n s h =
+    let long : length (take (i + n * m - i) (drop i bytes)) ≡ n * m = omega (arith, length-take (i + n * m - i) (drop i bytes), length-drop i bytes) in
+    rw long (mul-div_cancel n s)
+
+pub row_is : (kind : ByteDigits) (bytes : List ℕ) (len i m n k : ℕ) (row : List ℕ) (rows : List (List ℕ)) → 0 < m → (i + n * m) * 8 ≤ len → i + n * m ≤ length bytes
+    → (let part = take (i + n * m - i) (drop i bytes) in rows ≡ first_chunks m (length part / m) part) → k < n → row ≡ get_or rows k row
+    → slice_text kind row ≡ bytes_text kind bytes len (i + k * m) m
+row_is kind bytes len i m n k row rows s h l chunks p is =
+    let size : i + n * m - i ≡ n * m = omega arith in
+    let all = rw (rows_count bytes i m n s l, size) at chunks in
+    ap (slice_text kind) (is ∙ ap (λ (chunks : List (List ℕ)). get_or chunks k row) all) ∙ row_text kind bytes len i m n k row h l p
+
+-- So a row's digits are as many as those of m bytes.
+pub row_digits : (kind : ByteDigits) (bytes : List ℕ) (len i m : ℕ) (row : List ℕ) → slice_text kind row ≡ bytes_text kind bytes len i m
+    → length row * digits_per_byte kind ≡ m * digits_per_byte kind
+row_digits kind bytes len i m row e = omega (arith, slice_length kind row, bytes_length kind bytes len i m, ap length e)
 
 pub rows_none : (kind : ByteDigits) (bytes : List ℕ) (len i m : ℕ) (tail : List ℕ) → rows_text kind bytes len i m tail 0 ≡ []
 unfolding rows_text

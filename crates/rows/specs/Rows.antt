@@ -1,5 +1,5 @@
 -- Whole bytes of an image in digits: what the lines, chunks and groups of several formats are made of.
-use Rattle.std.specs.Prelude.{List, ◌++◌, ℕ, ◌+◌, ◌*◌}
+use Rattle.std.specs.Prelude.{List, ◌++◌, ℕ, ◌+◌, ◌*◌, length}
 use Rattle.bitvec.specs.Bits.{byte_at}
 use Rattle.output.specs.Pieces.{pieces}
 use Rattle.numbers.specs.declared.Letters.TheVariants.{Lower}
@@ -25,6 +25,10 @@ byte_digits Hex b = byte_text Lower b
 -- The m bytes of an image from byte i on.
 unfoldable pub bytes_text : ByteDigits → List ℕ → ℕ → ℕ → ℕ → List ℕ
 bytes_text kind bytes len i m = pieces (λ j. byte_digits kind (byte_at bytes len (i + j))) m
+
+-- All bytes of a slice.
+unfoldable pub slice_text : ByteDigits → List ℕ → List ℕ
+slice_text kind bytes = bytes_text kind bytes (8 * length bytes) 0 (length bytes)
 
 -- n rows of m bytes each, from byte i on, with a text behind each.
 unfoldable pub rows_text : ByteDigits → List ℕ → ℕ → ℕ → ℕ → List ℕ → ℕ → List ℕ

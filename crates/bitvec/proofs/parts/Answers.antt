@@ -1,9 +1,8 @@
--- `bitvec::parts` meets its contract: the quotient is the one that the definition names.
+-- `bitvec::parts` meets its contract: the library's quotient is the one that the definition names.
 -- Assumes nothing.
-use mathlib.Core.Path.{refl}
-use Rattle.bitvec.specs.Size.{ceil_div}
+use mathlib.Core.Path.{◌∙◌}
+use Rattle.bitvec.proofs.Size.{ceil_rounded}
 use Rattle.bitvec.proofs.parts.Goals as goal
 
 pub returns : goal.returns
-unfolding ceil_div
-returns c = refl
+returns c = c.div_ceil.ensures ∙ ceil_rounded c.args.len c.args.width c.requires.0

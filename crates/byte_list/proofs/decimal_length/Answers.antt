@@ -1,47 +1,28 @@
 -- `byte_list::decimal_length` meets its contract: the total is the length of the first k bytes, at first of those that are whole.
 -- Assumes nothing.
-use mathlib.Core.Path.{◌≡◌, sym, ap, ◌∙◌}
+use mathlib.Core.Path.{ap, ◌∙◌}
 use mathlib.Core.List.{List}
-use Prim.Native.Nat.{ℕ, ◌≤◌}
+use Prim.Native.Nat.{ℕ}
 use native.Mathlib.Omega.{arith}
 use lib.ListN.{length, length-append}
-use borrow.Author.Rules.{rules}
 use Rattle.bitvec.specs.Bits.{byte_at}
 use Rattle.output.specs.Pieces.{pieces}
 use Rattle.output.proofs.Pieces.{pieces_next}
-use Rattle.numbers.proofs.Digits.{count_small}
 use Rattle.byte_list.specs.Bytes.{byte_in}
 use Rattle.byte_list.proofs.Lengths as lengths
 use Rattle.byte_list.proofs.decimal_length.Goals as goal
 
--- byte k
-abbrev item : List ℕ → ℕ → ℕ → List ℕ
-item bytes len k = byte_in 10 (byte_at bytes len k)
-
-pub whole_length-total-requires : goal.whole_length-total-requires
-whole_length-total-requires c = (omega (arith, c.whole_bytes-whole.ensures.0), c.whole_bytes-whole.ensures.1, c.whole_bytes-whole.ensures.2)
-
-pub loop-k-init : goal.loop-k-init
-loop-k-init c = (c.whole_bytes-whole.ensures.0, c.whole_length-total.ensures.0, c.whole_length-total.ensures.1)
-
 pub overflow_add-total : goal.overflow_add-total
 overflow_add-total c =
-    let small : c.decimal_count-total.result ≤ 8 = omega (arith, c.decimal_count-total.ensures, count_small 10 (omega arith) 7 c.read_byte-byte.result (search rules)) in
-    omega (arith, small)
+    omega (arith, c.decimal_count-total.ensures, lengths.decimal_small c.read_byte-byte.result c.read_byte-byte.type_inv, c.loop-k.invariant.2)
 
 pub loop-k-preserved : goal.loop-k-preserved
 loop-k-preserved c =
-    let measured : length (item c.args.image.bytes.now c.args.image.len c.loop-k.k) ≡ c.decimal_count-total.result = lengths.decimal_length _ ∙ rw (← c.read_byte-byte.ensures) (sym c.decimal_count-total.ensures) in
-    let small : c.decimal_count-total.result ≤ 8 = omega (arith, c.decimal_count-total.ensures, count_small 10 (omega arith) 7 c.read_byte-byte.result (search rules)) in
     let a = c.args in
-    let done = pieces (item a.image.bytes.now a.image.len) c.loop-k.k in (
-      search rules,
-      rw (c.loop-k.invariant.1, ← measured)
-          (sym (ap length (pieces_next (item a.image.bytes.now a.image.len) c.loop-k.k) ∙ length-append done (item a.image.bytes.now a.image.len c.loop-k.k))),
-      omega (arith, small),
-    )
-
-pub returns : goal.returns
-returns c =
-    let done : c.loop-k.k ≡ c.args.count = omega arith in
-    (rw done at c.loop-k.invariant.1, rw done at c.loop-k.invariant.2)
+    let k = c.loop-k.k in
+    let item : ℕ → List ℕ = λ j. byte_in 10 (byte_at a.image.bytes.now a.image.len j) in
+    let more = ap length (pieces_next item k) ∙ length-append (pieces item k) (item k) in
+    let byte = lengths.decimal_length (byte_at a.image.bytes.now a.image.len k) in
+    let digits = rw c.read_byte-byte.ensures at c.decimal_count-total.ensures in
+    let few = lengths.decimal_small c.read_byte-byte.result c.read_byte-byte.type_inv in
+    (omega arith, omega (arith, more, byte, digits, c.loop-k.invariant.1), omega (arith, few, c.decimal_count-total.ensures, c.loop-k.invariant.2))

@@ -5,6 +5,7 @@ use Prim.Native.Nat.{◌+◌, ◌*◌, ◌^◌, ◌≤◌}
 use native.Mathlib.Omega.{arith}
 use borrow.Author.Rules.{rules}
 use Rattle.output.proofs.Joined.{between_small}
+use Rattle.byte_list.specs.Bytes.{radix_number}
 use Rattle.byte_list.proofs.Lengths as lengths
 use Rattle.byte_list.proofs.list_length.Goals as goal
 
@@ -20,7 +21,7 @@ returns c =
     omega (arith, c.between_length-between.ensures, between_small 16 (a.separator + a.start) a.separator a.count (2 ^ 32) (2 ^ 17) (search rules) (omega arith) (search rules)) in
     let a = c.args in (
       λ s line e f.
-          lengths.list_length a.radix s line a.image.bytes.now a.image.len a.start (λ k h. f k (rw c.requires.1 h))
+          lengths.list_length (radix_number a.radix) s line a.image.bytes.now a.image.len a.start (λ k h. f k (rw c.requires.1 h))
           ∙ rw (e, ← c.requires.1, ← c.bytes_length.ensures.0, ← c.between_length-between.ensures),
       omega (arith, small, c.bytes_length.ensures.1),
     )

@@ -1,5 +1,5 @@
 use mathlib.Core.Path.{◌≡◌}
-use Prim.Native.Nat.{◌+◌, ◌-◌, ◌*◌, ◌≤◌}
+use Prim.Native.Nat.{◌+◌, ◌≤◌}
 use lib.ListN.{length}
 use Rattle.output.specs.Writes.{Writes}
 use Rattle.digits.specs.Run.{run}
@@ -7,10 +7,6 @@ use Rattle.digits.proofs.put_each.Given as goal
 
 abbrev pub invariant-loop-k : goal.invariant-loop-k
 invariant-loop-k l = (l.k ≤ l.count)
-    × (l.offset ≡ l.initial.offset + l.k * l.width)
     × (l.next ≡ l.at + l.k)
-    × Writes (run l.image.bytes.now l.image.len l.width l.initial.offset l.k) l.initial.out l.at l.out l.next
+    × Writes (run l.image.bytes.now l.image.len l.width l.from.0 l.k) l.initial.out l.at l.out l.next
     × (length l.out ≡ length l.initial.out)
-
-abbrev pub decreases-loop-k : goal.decreases-loop-k
-decreases-loop-k l = l.count - l.k

@@ -1,54 +1,27 @@
 -- `hex_records::put_record` meets its contract: the writers one after another; the last sum is the checksum's.
 -- Assumes nothing.
-use Rattle.std.proofs.Common.{◌≡◌, ℕ, ◌+◌, ◌*◌, ◌/◌, ◌%◌, List, [], ◌∷◌, ◌++◌, arith}
+use Rattle.std.proofs.Common.{◌≡◌, ℕ, ◌+◌, ◌-◌, ◌*◌, ◌/◌, ◌%◌, List, [], ◌∷◌, ◌++◌, arith}
 use Rattle.numbers.specs.declared.Letters.TheVariants.{Upper}
 use Rattle.numbers.specs.Digits.{byte_text}
 use Rattle.output.specs.Writes.{Writes}
-use Rattle.output.proofs.Writes.{writes_then, writes_length}
+use Rattle.output.proofs.Writes.{writes_then}
 use Rattle.hex_records.specs.Plan.{Chunk}
 use Rattle.hex_records.specs.Text.{bytes_from, checksum, record_bytes, hex_bytes}
 use Rattle.hex_records.proofs.Sums.{total_append}
 use Rattle.hex_records.proofs.Text.{bytes_length, hex_length, checksum_is, record_parts}
 use Rattle.hex_records.proofs.put_record.Goals as goal
 
-pub put_data-sum-requires : goal.put_data-sum-requires
-put_data-sum-requires c =
-    let h = c.put_head-data.ensures in
-    (c.requires.small.2, omega (arith, h.next, hex_length (c.args.count ∷ c.args.address.0 / 256 ∷ c.args.address.0 % 256 ∷ 0 ∷ []), writes_length h, c.requires.room))
-
-pub overflow_add-data : goal.overflow_add-data
-overflow_add-data c =
-    let h = c.put_head-data.ensures in
-    omega (arith, h.next, hex_length (c.args.count ∷ c.args.address.0 / 256 ∷ c.args.address.0 % 256 ∷ 0 ∷ []), c.requires.room)
-
-pub put_byte-end-requires : goal.put_byte-end-requires
-put_byte-end-requires c =
-    let data_written : let a = c.args in let d = bytes_from a.image.bytes.now a.image.len a.from.0 a.count in Writes (hex_bytes d) c.put_head-data.new.out c.put_head-data.result c.put_data-sum.new.out (c.put_head-data.result + 2 * a.count) = let a = c.args in
-    let d = bytes_from a.image.bytes.now a.image.len a.from.0 a.count in
-    record { next = omega (arith, hex_length d, bytes_length a.image.bytes.now a.image.len a.from.0 a.count); stored = c.put_data-sum.ensures.stored } in
-    let h = c.put_head-data.ensures in
-    omega (arith, h.next, hex_length (c.args.count ∷ c.args.address.0 / 256 ∷ c.args.address.0 % 256 ∷ 0 ∷ []), writes_length h, writes_length (data_written), c.requires.room)
-
-pub put-requires : goal.put-requires
-unfolding byte_text
-put-requires c =
-    let data_written : let a = c.args in let d = bytes_from a.image.bytes.now a.image.len a.from.0 a.count in Writes (hex_bytes d) c.put_head-data.new.out c.put_head-data.result c.put_data-sum.new.out (c.put_head-data.result + 2 * a.count) = let a = c.args in
-    let d = bytes_from a.image.bytes.now a.image.len a.from.0 a.count in
-    record { next = omega (arith, hex_length d, bytes_length a.image.bytes.now a.image.len a.from.0 a.count); stored = c.put_data-sum.ensures.stored } in
-    let h = c.put_head-data.ensures in
-    let b = c.put_byte-end.ensures in
-    omega (arith, h.next, hex_length (c.args.count ∷ c.args.address.0 / 256 ∷ c.args.address.0 % 256 ∷ 0 ∷ []), writes_length h, writes_length (data_written), b.next, writes_length b, c.requires.room)
-
 pub returns : goal.returns
 unfolding record_bytes
 returns c =
-    let checked : let a = c.args in c.wrapping_sub_u8.result ≡ checksum (record_bytes a.image.bytes.now a.image.len (record { address = a.address.0; from = a.from.0; count = a.count })) = let a = c.args in
+    let check = (0 + (256 - c.put_data-sum.result)) % 256 in
+    let checked : let a = c.args in check ≡ checksum (record_bytes a.image.bytes.now a.image.len (record { address = a.address.0; from = a.from.0; count = a.count })) = let a = c.args in
     let head : List ℕ = a.count ∷ a.address.0 / 256 ∷ a.address.0 % 256 ∷ 0 ∷ [] in
     let d = bytes_from a.image.bytes.now a.image.len a.from.0 a.count in
-    checksum_is (head ++ d) c.put_data-sum.result c.wrapping_sub_u8.result
+    checksum_is (head ++ d) c.put_data-sum.result check
     (omega (arith, c.put_data-sum.ensures.sum, c.head_sum.ensures, total_append head d))
-    (omega (arith, c.wrapping_sub_u8.type_inv))
-    c.wrapping_sub_u8.ensures.value in
+    (omega arith)
+    (omega (arith, c.put_data-sum.type_inv)) in
     let data_written : let a = c.args in let d = bytes_from a.image.bytes.now a.image.len a.from.0 a.count in Writes (hex_bytes d) c.put_head-data.new.out c.put_head-data.result c.put_data-sum.new.out (c.put_head-data.result + 2 * a.count) = let a = c.args in
     let d = bytes_from a.image.bytes.now a.image.len a.from.0 a.count in
     record { next = omega (arith, hex_length d, bytes_length a.image.bytes.now a.image.len a.from.0 a.count); stored = c.put_data-sum.ensures.stored } in

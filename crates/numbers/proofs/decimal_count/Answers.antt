@@ -6,11 +6,11 @@ use Rattle.numbers.proofs.Digits.{count_last}
 use Rattle.numbers.proofs.Decimal.{count_two, count_three}
 use Rattle.numbers.proofs.decimal_count.Goals as goal
 
-pub returns-then-byte-lt10 : goal.returns-then-byte-lt10
-returns-then-byte-lt10 c = sym (count_last 10 _ c.if-byte-lt10.true)
+pub returns-in-0-to-9 : goal.returns-in-0-to-9
+returns-in-0-to-9 c = sym (count_last 10 c.args.byte (omega arith))
 
-pub returns-then-byte-lt100 : goal.returns-then-byte-lt100
-returns-then-byte-lt100 c = sym (count_two _ c.if-byte-lt10.false c.if-byte-lt100.true)
+pub returns-in-10-to-99 : goal.returns-in-10-to-99
+returns-in-10-to-99 c = sym (count_two c.args.byte (omega arith) (omega arith))
 
-pub returns-else-byte-lt100 : goal.returns-else-byte-lt100
-returns-else-byte-lt100 c = sym (count_three c.args.byte c.if-byte-lt100.false (omega arith))
+pub returns-in_default : goal.returns-in_default
+returns-in_default c = sym (count_three c.args.byte (omega arith) (omega arith))

@@ -9,47 +9,22 @@ use Rattle.numbers.proofs.Digits.{count_some, number_length}
 use Rattle.numbers.proofs.Decimal.{three_stored, tens_place, ones_place, digit_small}
 use Rattle.numbers.proofs.put_decimal.Goals as goal
 
-pub overflow_add-middle : goal.overflow_add-middle
-overflow_add-middle c =
-    let middle : c.above.result ≡ digit_count 10 c.args.byte - 2 = c.above.ensures ∙ tens_place c.args.byte (omega arith) in
-    omega (arith, middle)
-
-pub overflow_add-last : goal.overflow_add-last
-overflow_add-last c =
-    let last : c.above.result + c.above-2.result ≡ digit_count 10 c.args.byte - 1 = rw (c.above.ensures, c.above-2.ensures) (ones_place c.args.byte (omega arith)) in
-    omega (arith, last)
-
-pub bounds-out-at : goal.bounds-out-at
-bounds-out-at c =
-    let some : 1 ≤ digit_count 10 c.args.byte = count_some 10 c.args.byte (omega arith) in
-    omega (arith, some)
-
 pub bounds-out-middle : goal.bounds-out-middle
 bounds-out-middle c =
-    let middle : c.above.result ≡ digit_count 10 c.args.byte - 2 = c.above.ensures ∙ tens_place c.args.byte (omega arith) in
-    let some : 1 ≤ digit_count 10 c.args.byte = count_some 10 c.args.byte (omega arith) in
-    simp length-set (omega (arith, middle, some))
+    simp length-set (omega (arith, tens_place c.args.byte (omega arith), count_some 10 c.args.byte (omega arith)))
 
 pub bounds-out-last : goal.bounds-out-last
 bounds-out-last c =
-    let last : c.above.result + c.above-2.result ≡ digit_count 10 c.args.byte - 1 = rw (c.above.ensures, c.above-2.ensures) (ones_place c.args.byte (omega arith)) in
-    let some : 1 ≤ digit_count 10 c.args.byte = count_some 10 c.args.byte (omega arith) in
-    simp length-set (omega (arith, last, some))
-
-pub overflow_add-result : goal.overflow_add-result
-overflow_add-result c =
-    let last : c.above.result + c.above-2.result ≡ digit_count 10 c.args.byte - 1 = rw (c.above.ensures, c.above-2.ensures) (ones_place c.args.byte (omega arith)) in
-    let some : 1 ≤ digit_count 10 c.args.byte = count_some 10 c.args.byte (omega arith) in
-    omega (arith, last, some)
+    simp length-set (omega (arith, ones_place c.args.byte (omega arith), count_some 10 c.args.byte (omega arith)))
 
 pub returns : goal.returns
 returns c =
-    let last : c.above.result + c.above-2.result ≡ digit_count 10 c.args.byte - 1 = rw (c.above.ensures, c.above-2.ensures) (ones_place c.args.byte (omega arith)) in
+    let last : c.from.result + c.from-2.result ≡ digit_count 10 c.args.byte - 1 = rw (c.from.ensures, c.from-2.ensures) (ones_place c.args.byte (omega arith)) in
     let some : 1 ≤ digit_count 10 c.args.byte = count_some 10 c.args.byte (omega arith) in
-    let middle : c.above.result ≡ digit_count 10 c.args.byte - 2 = c.above.ensures ∙ tens_place c.args.byte (omega arith) in
+    let middle : c.from.result ≡ digit_count 10 c.args.byte - 2 = c.from.ensures ∙ tens_place c.args.byte (omega arith) in
     let a = c.args in
     let b = a.byte in
-    let place : a.at + c.above.result + c.above-2.result ≡ a.at + (digit_count 10 b - 1) = omega (arith, last) in
+    let place : a.at + c.from.result + c.from-2.result ≡ a.at + (digit_count 10 b - 1) = omega (arith, last) in
     let tens : b / 10 - b / 100 * 10 ≡ b / 10 % 10 = omega arith in
     let ones : b - b / 10 * 10 ≡ b % 10 = omega arith in
     record {

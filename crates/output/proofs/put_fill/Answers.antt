@@ -1,6 +1,6 @@
 -- `output::put_fill` meets its contract: the part behind the place is filled.
 -- Assumes nothing.
-use Rattle.std.proofs.Common.{rules, arith, ◌≡◌, ◌+◌, ◌-◌, ◌≤◌, length, replicate}
+use Rattle.std.proofs.Common.{rules, arith, replicate}
 use lib.ListN.{length-replicate}
 use Rattle.output.proofs.Writes.{part_filled}
 use Rattle.output.proofs.put_fill.Goals as goal

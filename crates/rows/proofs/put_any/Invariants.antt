@@ -1,12 +1,8 @@
 use mathlib.Core.Path.{◌≡◌}
-use Prim.Native.Nat.{◌-◌, ◌≤◌}
 use lib.ListN.{length}
 use Rattle.output.specs.Writes.{Writes}
 use Rattle.rows.specs.Rows.{rows_text}
 use Rattle.rows.proofs.put_any.Given as goal
 
-abbrev pub invariant-loop-k : goal.invariant-loop-k
-invariant-loop-k l = (l.k ≤ l.count) × Writes (rows_text l.kind l.image.bytes.now l.image.len l.first 1 l.tail l.k) l.initial.out l.at l.out l.next × (length l.out ≡ length l.initial.out)
-
-abbrev pub decreases-loop-k : goal.decreases-loop-k
-decreases-loop-k l = l.count - l.k
+abbrev pub invariant-loop-byte : goal.invariant-loop-byte
+invariant-loop-byte l = Writes (rows_text l.kind l.image.bytes.now l.image.len l.first 1 l.tail l.byte-index) l.initial.out l.at l.out l.next × (length l.out ≡ length l.initial.out)

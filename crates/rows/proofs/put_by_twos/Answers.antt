@@ -31,7 +31,7 @@ loop-k-preserved c =
     let a = c.args in
     let place = a.first + c.loop-k.k * 2 in (
       search rules,
-      rw (singles_two Hex a.image.bytes.now a.image.len a.first (a.tail ∷ []) c.loop-k.k (omega (arith, c.requires.inside.0)) (c.shared_slice_known-in-loop-k-1.given place).fits (search rules))
+      rw (singles_two Hex a.image.bytes.now a.image.len a.first (a.tail ∷ []) c.loop-k.k (omega (arith, c.requires.inside.0)) (search rules) (search rules))
           (writes_then c.loop-k.invariant.1 c.put_parted-next.ensures),
       omega (arith, c.loop-k.invariant.2, writes_length c.put_parted-next.ensures),
     )

@@ -1,15 +1,7 @@
 -- `rows::put_digits` meets its contract: one case for each kind of digits.
 -- Assumes nothing.
-use mathlib.Core.Path.{ap}
-use native.Mathlib.Omega.{arith}
-use Rattle.rows.specs.Rows.{digits_per_byte, byte_digits}
+use Rattle.rows.specs.Rows.{byte_digits}
 use Rattle.rows.proofs.put_digits.Goals as goal
-
-pub put_bits-requires : goal.put_bits-requires
-put_bits-requires c = omega (arith, ap digits_per_byte c.in-Binary.is, c.requires)
-
-pub put_byte-requires : goal.put_byte-requires
-put_byte-requires c = omega (arith, ap digits_per_byte c.in-Hex.is, c.requires)
 
 pub returns-in-Binary : goal.returns-in-Binary
 unfolding byte_digits

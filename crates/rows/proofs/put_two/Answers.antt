@@ -1,28 +1,20 @@
--- `rows::put_two` meets its contract: both bytes are within the image.
+-- `rows::put_two` meets its contract: one case for each kind of digits.
 -- Assumes nothing.
-use Prim.Native.Nat.{◌+◌}
-use borrow.Author.Rules.{rules}
-use Rattle.rows.specs.declared.ByteDigits.TheVariants.{Binary, Hex}
-use Rattle.rows.specs.Rows.{byte_digits}
-use Rattle.rows.proofs.Rows.{two_text}
+use mathlib.Core.Path.{ap}
+use native.Mathlib.Omega.{arith}
+use Rattle.output.proofs.Writes.{writes_then, writes_length}
+use Rattle.numbers.proofs.Digits.{digits_length}
+use Rattle.rows.specs.Rows.{digits_per_byte, byte_digits}
 use Rattle.rows.proofs.put_two.Goals as goal
 
-pub put_two_bits-requires : goal.put_two_bits-requires
-put_two_bits-requires c = rw c.in-Binary.is at c.requires.room
-
-pub put_pair-requires : goal.put_pair-requires
-put_pair-requires c = rw c.in-Hex.is at c.requires.room
+pub put_bits-requires : goal.put_bits-requires
+put_bits-requires c =
+    omega (arith, ap digits_per_byte c.in-Binary.is, c.requires, c.put_bits-next.ensures.next, writes_length c.put_bits-next.ensures, digits_length 1 8 c.args.first)
 
 pub returns-in-Binary : goal.returns-in-Binary
 unfolding byte_digits
-returns-in-Binary c =
-    let a = c.args in
-    rw (c.in-Binary.is, two_text Binary a.image.bytes.now a.image.len a.place c.requires.inside.0 (c.shared_slice_known-2-1.given a.place).fits (search rules))
-    c.put_two_bits.ensures
+returns-in-Binary c = rw c.in-Binary.is (writes_then c.put_bits-next.ensures c.put_bits.ensures)
 
 pub returns-in-Hex : goal.returns-in-Hex
 unfolding byte_digits
-returns-in-Hex c =
-    let a = c.args in
-    rw (c.in-Hex.is, two_text Hex a.image.bytes.now a.image.len a.place c.requires.inside.0 (c.shared_slice_known-2-1.given a.place).fits (search rules))
-    c.put_pair.ensures
+returns-in-Hex c = rw c.in-Hex.is c.put_pair.ensures

@@ -3,9 +3,9 @@
 use mathlib.Core.Path.{◌≡◌, sym}
 use Prim.Native.Nat.{ℕ, ◌+◌, ◌-◌, ◌*◌, ◌%◌, ◌^◌, ◌≤◌}
 use native.Mathlib.Omega.{arith}
-use native.Mathlib.Nat.{one-mul, mod-eq_of_lt, lt_of_lt_of_le, mod-lt}
+use native.Mathlib.Nat.{one-mul, mod-eq_of_lt}
 use lib.ListN.{length}
-use lib.Pow.{pow_pos, pow_mono}
+use lib.Pow.{pow_mono}
 use borrow.Author.Rules.{rules}
 use Rattle.bitvec.proofs.Words.{bits_cut, pair_whole}
 use Rattle.bitvec.proofs.Image.read_across.Goals as goal
