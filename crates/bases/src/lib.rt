@@ -1,27 +1,21 @@
 // The bases that an image's digits can have.
 #![tactic(auto)]
 
-ghost use Rattle.std.specs.Prelude.{◌≡◌};
+ghost use Rattle.std.specs.Prelude.{◌≡◌, ◌<◌, ◌≤◌, IfSome, unwrap_or};
 ghost use Rattle.bases.specs.Base.{base_bits};
 
-// How many bits a digit has in base 2, 4, 8, 16 or 32, and 0 for what is no base.
-pub fn base_bits(base: usize) -> usize
-    ensures { result ≡ base_bits base }
+// How many bits a digit has in base 2, 4, 8, 16 or 32; any other number is no base.
+#[tactic(auto, unfolding(crate::specs::Base::base_bits))]
+pub fn base_bits(base: usize) -> Option<usize>
+    ensures bits { unwrap_or result 0 ≡ base_bits base }
+    ensures few { IfSome result (λ w. (0 < w) × (w ≤ 5)) }
 {
-    if base == 2 {
-        return 1;
+    match base {
+        2 => Some(1),
+        4 => Some(2),
+        8 => Some(3),
+        16 => Some(4),
+        32 => Some(5),
+        _ => None,
     }
-    if base == 4 {
-        return 2;
-    }
-    if base == 8 {
-        return 3;
-    }
-    if base == 16 {
-        return 4;
-    }
-    if base == 32 {
-        return 5;
-    }
-    0
 }

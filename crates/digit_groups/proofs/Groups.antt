@@ -10,7 +10,7 @@ use lib.Arith.{digits_mod}
 use lib.Dec.{eqb}
 use lib.ListN.{length, take, drop, length-append}
 use lib.Seq.{sets}
-use borrow.Author.Tests.{ne_eqb}
+use borrow.Author.Tests.{eq-eqb, ne_eqb}
 use Rattle.output.specs.Pieces.{pieces, leading, joined}
 use Rattle.output.specs.Writes.{Writes}
 use Rattle.output.proofs.Order.{stride}
@@ -35,6 +35,17 @@ pub next_second : (m q n : ℕ) → 0 < m → n ≡ m - 1 - q % m → (q + (1 + 
 next_second m q n p e =
     let place : q + (1 + n) ≡ suc (q / m) * m = omega (arith, e, div-add-mod' q m, suc-mul (q / m) m, mod-lt q p) in
     rw place (mul-mod_left (suc (q / m)) m)
+
+-- The string before a group: the first where m does not divide its number, and else the second.
+pub before_first : (m : ℕ) (between between2 : List ℕ) (k : ℕ) → 0 < k → m - 1 - k % m < m - 1 → leading (string_at m between between2) k ≡ between
+unfolding leading string_at
+before_first m between between2 k p l =
+    simp (ne_eqb k 0 (λ z. absurd (omega arith)), ne_eqb (k % m) 0 (λ z. absurd (omega (arith, z, l))))
+
+pub before_second : (m : ℕ) (between between2 : List ℕ) (k : ℕ) → 0 < k → 0 < m → m - 1 ≤ m - 1 - k % m → leading (string_at m between between2) k ≡ between2
+unfolding leading string_at
+before_second m between between2 k p q l =
+    simp (ne_eqb k 0 (λ z. absurd (omega arith)), eq-eqb (k % m) 0 (omega (arith, l, mod-lt k q)))
 
 pub cut_none : (m : ℕ) (between between2 s : List ℕ) (size k : ℕ) → cut_text m between between2 s size k 0 ≡ []
 unfolding cut_text

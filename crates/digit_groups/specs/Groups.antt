@@ -2,6 +2,8 @@
 use Rattle.std.specs.Prelude.{cond, List, ◌++◌, ℕ, ◌+◌, ◌*◌, ◌%◌, eqb, take, drop}
 use Rattle.output.specs.Pieces.{pieces, leading}
 use Rattle.digits.specs.Run.{run}
+use Rattle.digit_groups.specs.declared.shape.DigitGroups.{DigitGroups}
+use Rattle.digit_groups.specs.declared.shape.Strings.{Strings}
 
 -- The string before group k: the second where m divides k, and else the first.
 unfoldable pub string_at : ℕ → List ℕ → List ℕ → ℕ → List ℕ
@@ -18,3 +20,16 @@ groups_text m between between2 bytes len w size k n = pieces (λ j. leading (str
 -- The first n parts of a text that has the digits of these groups, with what stands before each.
 unfoldable pub cut_text : ℕ → List ℕ → List ℕ → List ℕ → ℕ → ℕ → ℕ → List ℕ
 cut_text m between between2 s size k n = pieces (λ j. leading (string_at m between between2) (k + j) ++ take size (drop (j * size) s)) n
+
+-- The same of groups and strings as the code has them.
+abbrev pub strings_of : Strings → ℕ → List ℕ
+strings_of t = string_at t.every t.between.now t.between2.now
+
+abbrev pub groups_of : DigitGroups → ℕ → List ℕ
+groups_of g = group_at g.image.bytes.now g.image.len g.width g.size
+
+abbrev pub groups_written : Strings → DigitGroups → ℕ → ℕ → List ℕ
+groups_written t g = groups_text t.every t.between.now t.between2.now g.image.bytes.now g.image.len g.width g.size
+
+abbrev pub cut_written : Strings → List ℕ → ℕ → ℕ → ℕ → List ℕ
+cut_written t = cut_text t.every t.between.now t.between2.now

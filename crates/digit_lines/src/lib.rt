@@ -7,13 +7,6 @@ ghost use Rattle.digit_lines.specs.Lines.{lines_text, block_lines};
 
 use bitvec::{BitOffset, Image};
 
-// Places for the digits of a block of lines.
-fn no_digits() -> [u8; 1024]
-    ensures { length result ≡ 1024 }
-{
-    [0; 1024]
-}
-
 // Stores `lines` lines of `size` digits each, whose digits have places in one array.
 fn put_block(
     out: &mut [u8],
@@ -29,7 +22,7 @@ fn put_block(
     requires room { at + lines * (size + 1) ≤ length out.old }
     ensures { Writes (lines_text image.entry.bytes.now image.entry.len width from.0 size tail lines) out.old at out.new result }
 {
-    let mut digits = no_digits();
+    let mut digits = [0; 1024];
     digits::put_run(&mut digits, 0, image, width, from, lines * size);
     text_parts::put_parts(out, at, &digits, size, tail, lines)
 }
@@ -63,11 +56,11 @@ pub fn put_lines(
     ensures { Writes (lines_text image.entry.bytes.now image.entry.len width from.0 size tail count) out.old at out.new result }
 {
     let most = block_lines(size);
-    let mut offset = from.0;
+    let start = from.0;
     let mut next = at;
-    let mut k = 0;
-    while k < count {
+    for k in (0..count).step_by(most) {
         let lines = most.min(count - k);
+        let offset = start + k * (size * width);
         next = put_block(
             out,
             next,
@@ -78,8 +71,6 @@ pub fn put_lines(
             tail,
             lines,
         );
-        offset += lines * size * width;
-        k += lines;
     }
     next
 }

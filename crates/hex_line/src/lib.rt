@@ -1,7 +1,7 @@
 // Lines in hexadecimal whose first digit may be short. A line of few bits is cut out of one word.
 #![tactic(auto)]
 
-ghost use Rattle.std.specs.Prelude.{◌≡◌, true, ◌+◌, ◌*◌, ◌/◌, ◌≤◌, ◌<◌, ◌^◌, min, length};
+ghost use Rattle.std.specs.Prelude.{◌≡◌, ◌+◌, ◌/◌, ◌≤◌, ◌<◌, ◌^◌, IfSome, min, length};
 ghost use Rattle.output.specs.Writes.{Writes};
 ghost use Rattle.bitvec.specs.Bits.{bits_at};
 ghost use Rattle.numbers.specs.Digits.{digits_of};
@@ -10,7 +10,7 @@ ghost use Rattle.digits.specs.Run.{short_digit, hex_line};
 use bitvec::{BitOffset, Image};
 use numbers::Letters;
 
-// Stores the digit of `width` bits from `from` on, and nothing where the width is 0.
+// Stores the digit of `width` bits from `from` on: no bits make no digit.
 fn put_short(out: &mut [u8], at: usize, image: Image, width: usize, from: BitOffset) -> usize
     requires { (width ≤ 5) × (from.0 + width < 2 ^ 64) × (at + min 1 width ≤ length out.old) }
     ensures { Writes (short_digit image.entry.bytes.now image.entry.len width from.0) out.old at out.new result }
@@ -32,30 +32,18 @@ fn put_by_runs(out: &mut [u8], at: usize, image: Image, from: BitOffset, count: 
     digits::put_run(out, next, image, 4, BitOffset(start + short), count / 4)
 }
 
-// Whether `count` bits from bit `from` on, of which there are some, can be cut out of eight whole bytes
-// of the image.
-fn in_word(image: Image, from: usize, count: usize) -> bool
-    ensures { result ≡ true → (0 < count) × (count ≤ 56) × ((from / 8 + 8) * 8 ≤ image.entry.len) × (from / 8 + 8 ≤ length image.entry.bytes.now) }
+// The number that `count` bits from bit `from` on make, where there are some, and eight whole bytes of
+// the image hold them.
+fn line_value(image: Image, from: usize, count: usize) -> Option<u64>
+    ensures { IfSome result (λ value. (count ≤ 56) × (value ≡ bits_at image.entry.bytes.now image.entry.len from count)) }
 {
-    if count < 1 {
-        return false;
+    if count == 0 || 56 < count || image.whole_bytes() < from / 8 + 8 {
+        return None;
     }
-    if 56 < count {
-        return false;
-    }
-    from / 8 + 8 <= image.whole_bytes()
-}
-
-// The number that `count` bits from bit `from` on make, cut out of the eight bytes that hold them.
-fn line_value(image: Image, from: usize, count: usize) -> u64
-    requires small { (0 < count) × (count ≤ 56) }
-    requires inside { ((from / 8 + 8) * 8 ≤ image.len) × (from / 8 + 8 ≤ length image.bytes.now) }
-    ensures { result ≡ bits_at image.entry.bytes.now image.entry.len from count }
-{
     let word = bitvec::read_word(image.bytes, from / 8);
     let behind = (64 - (from % 8 + count)) as u64;
     let base: u64 = 1 << count as u64;
-    (word >> behind) % base
+    Some((word >> behind) % base)
 }
 
 // Stores the `count` hexadecimal digits that a number ends with.
@@ -79,9 +67,8 @@ pub fn put_hex_line(out: &mut [u8], at: usize, image: Image, from: BitOffset, co
     ensures { Writes (hex_line image.entry.bytes.now image.entry.len from.0 count) out.old at out.new result }
 {
     let start = from.0;
-    if in_word(image, start, count) {
-        let value = line_value(image, start, count);
-        return put_value(out, at, value, (count + 3) / 4);
+    match line_value(image, start, count) {
+        Some(value) => put_value(out, at, value, count.div_ceil(4)),
+        None => put_by_runs(out, at, image, BitOffset(start), count),
     }
-    put_by_runs(out, at, image, BitOffset(start), count)
 }

@@ -9,9 +9,6 @@ pub fn parts_length(len: usize, width: usize, full: usize, last: usize) -> usize
     requires { (0 < width) × (len < 2 ^ 31) × (full < 2 ^ 31) × (last < 2 ^ 31) }
     ensures { result ≡ len / width * full + cond (eqb (len % width) 0) 0 last }
 {
-    let whole = len / width * full;
-    if len % width == 0 {
-        return whole;
-    }
-    whole + last
+    let behind = if len % width == 0 { 0 } else { last };
+    len / width * full + behind
 }

@@ -1,13 +1,14 @@
 -- Laws of a text that is cut into parts.
 -- Assumes nothing.
-use mathlib.Core.Path.{◌≡◌, ap, ◌∙◌}
+use mathlib.Core.Path.{◌≡◌, sym, ap, ◌∙◌}
 use mathlib.Core.List.{List, [], ◌∷◌, ◌++◌, append-nil, append_assoc}
 use Prim.Native.Nat.{ℕ, zero, suc, ◌+◌, ◌-◌, ◌*◌, ◌≤◌, ◌<◌}
 use native.Mathlib.Omega.{arith}
-use native.Mathlib.Nat.{zero-add, suc-mul, zero-mul, mul-one, mul-le-mul_left}
+use native.Mathlib.Nat.{zero-add, add-mul, suc-mul, zero-mul, mul-le-mul_right}
 use lib.ListN.{length, get_or, take, drop, length-append, length-drop, drop_of_length-le, take-append-drop}
-use lib.Seq.{sets, sets-eq, length-take-le, take_at, drop_at, drop-cons, take-append-add, drop-drop}
-use Rattle.output.proofs.Order.{stride}
+use lib.Seq.{sets, sets-eq, length-take-le, take_at, drop_at, drop-cons, take-add, take-append_seam, drop-append_seam, drop-drop}
+use Rattle.std.proofs.lemmas.List.{drop-take, take-take}
+use Rattle.output.proofs.Order.{by_order, stride}
 use Rattle.output.specs.Pieces.{pieces}
 use Rattle.output.specs.Writes.{Writes}
 use Rattle.output.proofs.Writes.{writes_over}
@@ -18,36 +19,20 @@ use Rattle.text_parts.specs.Parts.{parts_text, headed_text}
 pub part_length : (s : List ℕ) (from size : ℕ) → from + size ≤ length s → length (take size (drop from s)) ≡ size
 part_length s from size h = length-take-le size (drop from s) (rw (length-drop from s) (omega arith))
 
--- A part of one character.
-pub part_of_one : (s : List ℕ) (from : ℕ) → from < length s → take 1 (drop from s) ≡ get_or s from 0 ∷ []
-part_of_one s from h = ap (take 1) (drop-cons s from 0 h)
-
--- The front of a text in two.
-take_split : (s : List ℕ) (a b : ℕ) → a ≤ length s → take (a + b) s ≡ take a s ++ take b (drop a s)
-take_split s a b h =
-    rw (length-take-le a s h, take-append-drop a s) at (take-append-add (take a s) (drop a s) b)
-
--- A part that is written as its first and its last m characters, which may overlap.
-pub writes_twice : {l₀ l₁ l₂ : List ℕ} {at r₁ r₂ : ℕ} (s : List ℕ) (from m n : ℕ) → m ≤ n → n ≤ m + m → from + n ≤ length s
-    → Writes (take m (drop from s)) l₀ at l₁ r₁ → Writes (take m (drop (from + (n - m)) s)) l₁ (at + (n - m)) l₂ r₂
-    → Writes (take n (drop from s)) l₀ at l₂ r₂
-writes_twice {at = at} {r₁ = r₁} s from m n h l b p q =
-    let d = drop from s in
-    let long = length-drop from s in
-    let again = take (m + m - n) (drop (n - m) d) in
-    let last = take m (drop (n - m) d) in
-    let first : take m d ≡ take (n - m) d ++ again = rw (front_again h l) at (take_split d (n - m) (m + m - n) (omega arith)) in
-    let all : take n d ≡ take (n - m) d ++ last = rw (front_last h) at (take_split d (n - m) m (omega arith)) in
-    let again-length : length again ≡ m + m - n = length-take-le (m + m - n) (drop (n - m) d) (omega (arith, length-drop (n - m) d)) in
-    let last_length : length last ≡ m = length-take-le m (drop (n - m) d) (omega (arith, length-drop (n - m) d)) in
-    let place : at + (n - m) ≡ r₁ - length again = omega (arith, p.next, part_length s from m (omega arith), again-length) in
-    rw all (writes_over (take (n - m) d) again last (omega (arith, again-length, last_length)) (rw first at p) (rw (place, ← drop-drop (n - m) from s) at q))
-  where
-    front_again : m ≤ n → n ≤ m + m → n - m + (m + m - n) ≡ m
-    front_again h l = omega arith
-
-    front_last : m ≤ n → n - m + m ≡ n
-    front_last h = omega arith
+-- A text that is written as its first and its last m characters, which may overlap.
+pub writes_twice : {l₀ l₁ l₂ : List ℕ} {at r₁ r₂ : ℕ} (s : List ℕ) (m : ℕ) → m ≤ length s → length s ≤ m + m
+    → Writes (take m s) l₀ at l₁ r₁ → Writes (drop (length s - m) s) l₁ (at + (length s - m)) l₂ r₂
+    → Writes s l₀ at l₂ r₂
+writes_twice {at = at} {r₁ = r₁} s m h l p q =
+    let n = length s in
+    let last = drop (n - m) s in
+    let again = take (m + m - n) last in
+    let last_length : length last ≡ m = omega (arith, length-drop (n - m) s) in
+    let again-length : length again ≡ m + m - n = length-take-le (m + m - n) last (omega (arith, last_length)) in
+    let front_again : n - m + (m + m - n) ≡ m = omega arith in
+    let first : take m s ≡ take (n - m) s ++ again = rw front_again at (take-add (n - m) (m + m - n) s) in
+    let place : at + (n - m) ≡ r₁ - length again = omega (arith, p.next, length-take-le m s h, again-length) in
+    rw (take-append-drop (n - m) s) at (writes_over (take (n - m) s) again last (omega (arith, again-length, last_length)) (rw first at p) (rw place at q))
 
 -- A text that is written at the start of another.
 pub front : (l t : List ℕ) → length t ≤ length l → sets l 0 t ≡ t ++ drop (length t) l
@@ -88,18 +73,54 @@ unfolding headed_text
 headed_next s size i head n = pieces_next _ n
 
 -- Part k of n from part i on is in a text that has all of them.
-pub part_inside : (s : List ℕ) (size i n k : ℕ) → (i + n) * size ≤ length s → k < n → (i + k) * size + size ≤ length s
+part_inside : (s : List ℕ) (size i n k : ℕ) → (i + n) * size ≤ length s → k < n → (i + k) * size + size ≤ length s
 part_inside s size i n k l h = omega (arith, stride (i + k) (i + n) size (omega arith))
-
--- Its number is within a text too, where a part has characters.
-pub number_inside : (s : List ℕ) (size i n k : ℕ) → 0 < size → (i + n) * size ≤ length s → k < n → i + k < length s
-number_inside s size i n k p l h = omega (arith, rw mul-one at (mul-le-mul_left {m = 1} {n = size} (i + n) (omega arith)))
 
 pub headed_length : (s : List ℕ) (size i : ℕ) (head : List ℕ) (n : ℕ) → (i + n) * size ≤ length s → length (headed_text s size i head n) ≡ n * (length head + size)
 unfolding headed_text
 headed_length s size i head n l =
     pieces_length _ (length head + size) n
     (λ k h. length-append head (take size (drop ((i + k) * size) s)) ∙ rw (part_length s ((i + k) * size) size (part_inside s size i n k l h)))
+
+-- A text of n parts that is taken part by part: x is part k, and t stands behind it.
+pub part_taken : (s x t : List ℕ) {rest : List ℕ} (size n k : ℕ) → 0 < size → length s ≡ n * size → rest ≡ drop (k * size) s → rest ≡ x ++ t → length x ≡ size
+    → (k < n) × (x ≡ take size (drop ((0 + k) * size) s)) × (t ≡ drop ((k + 1) * size) s)
+part_taken s x t size n k p all r e l =
+    let here : drop (k * size) s ≡ x ++ t = sym r ∙ e in
+    let long : k * size + size ≤ length s = omega (arith, p, l, ap length here, length-append x t, length-drop (k * size) s) in
+    let front : take size (x ++ t) ≡ x = rw l at (take-append_seam x t) in
+    let back : drop size (x ++ t) ≡ t = rw l at (drop-append_seam x t) in
+    let behind : k * size + size ≡ (k + 1) * size = omega (arith, suc-mul k size) in (
+      by_order k n (λ b. b) (λ b. absurd (omega (arith, p, all, long, mul-le-mul_right size b))),
+      rw (zero-add k, here) (sym front),
+      sym back ∙ rw (← here) (drop-drop size (k * size) s) ∙ ap (λ (i : ℕ). drop i s) behind,
+    )
+
+-- Behind the last of n parts no whole one is left.
+pub all_taken : (s : List ℕ) {rest : List ℕ} (size n k : ℕ) → length s ≡ n * size → rest ≡ drop (k * size) s → length rest < size → k ≤ n → k ≡ n
+all_taken s size n k all r h l =
+    by_order k n
+    (λ b. absurd (omega (arith, all, h, ap length r, length-drop (k * size) s, stride k n size b)))
+    (λ b. omega arith)
+
+-- The parts from part i on, as a text of its own.
+headed_slice : (s : List ℕ) (size i : ℕ) (head : List ℕ) (n : ℕ) → headed_text (take (n * size) (drop (i * size) s)) size 0 head n ≡ headed_text s size i head n
+unfolding headed_text
+headed_slice s size i head n =
+    pieces_equal _ _ n
+    (λ k h.
+    let more = n * size - (k * size + size) in
+    let all : n * size ≡ k * size + (size + more) = omega (arith, stride k n size h) in
+    let here : i * size + k * size ≡ (i + k) * size = omega (arith, add-mul i k size) in
+    ap (λ (t : List ℕ). head ++ t)
+    (rw (zero-add k, all, drop-take (k * size) (size + more) (drop (i * size) s), take-take size (size + more) (drop (k * size) (drop (i * size) s)) (omega arith), drop-drop (k * size) (i * size) s, here)))
+
+-- Parts of a slice that are written with a text before each are those of the whole text.
+pub headed_written : {l₀ l₁ : List ℕ} {at r : ℕ} (s : List ℕ) (size i : ℕ) (head : List ℕ) (n : ℕ)
+    → Writes (headed_text (take (i * size + n * size - i * size) (drop (i * size) s)) size 0 head n) l₀ at l₁ r → Writes (headed_text s size i head n) l₀ at l₁ r
+headed_written s size i head n w =
+    let all : i * size + n * size - i * size ≡ n * size = omega arith in
+    rw (headed_slice s size i head n) at (rw all at w)
 
 -- Piece k of a text that is made of pieces of one length, whatever stands behind them.
 pub pieces_cut : (f : ℕ → List ℕ) (m n : ℕ) (rest : List ℕ) → ((i : ℕ) → i < n → length (f i) ≡ m) → (k : ℕ) → k < n → take m (drop (k * m) (pieces f n ++ rest)) ≡ f k

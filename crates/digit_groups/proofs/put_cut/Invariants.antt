@@ -7,7 +7,7 @@ use Rattle.digit_groups.proofs.put_cut.Given as goal
 
 abbrev pub invariant-loop-j : goal.invariant-loop-j
 invariant-loop-j l = (l.j ≤ l.count)
-    × Writes (cut_text l.every l.between l.between2 l.s l.size l.k l.j) l.initial.out l.at l.out l.next
+    × Writes (cut_text l.every l.strings.between.now l.strings.between2.now l.s l.size l.k l.j) l.initial.out l.at l.out l.next
     × (length l.out ≡ length l.initial.out)
     × (l.j < l.count → l.left ≡ l.every - 1 - (l.k + l.j) % l.every)
 

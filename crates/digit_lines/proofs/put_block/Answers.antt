@@ -7,4 +7,4 @@ use Rattle.digit_lines.proofs.put_block.Goals as goal
 pub returns : goal.returns
 returns c =
     let a = c.args in
-    lines_copied a.image.bytes.now a.image.len a.width a.from.0 a.size a.tail a.lines (omega (arith, c.no_digits-digits.ensures, c.requires.small.1)) c.put_run.ensures c.put_parts.ensures
+    lines_copied a.image.bytes.now a.image.len a.width a.from.0 a.size a.tail a.lines (omega (arith, c.requires.small.1)) c.put_run.ensures c.put_parts.ensures

@@ -1,5 +1,5 @@
 use mathlib.Core.Path.{◌≡◌}
-use Prim.Native.Nat.{◌+◌, ◌-◌, ◌*◌, ◌≤◌}
+use Prim.Native.Nat.{◌≤◌}
 use lib.ListN.{length}
 use Rattle.output.specs.Writes.{Writes}
 use Rattle.digit_lines.specs.Lines.{lines_text}
@@ -7,9 +7,5 @@ use Rattle.digit_lines.proofs.put_lines.Given as goal
 
 abbrev pub invariant-loop-k : goal.invariant-loop-k
 invariant-loop-k l = (l.k ≤ l.count)
-    × (l.offset ≡ l.initial.offset + l.k * (l.size * l.width))
-    × Writes (lines_text l.image.bytes.now l.image.len l.width l.initial.offset l.size l.tail l.k) l.initial.out l.at l.out l.next
+    × Writes (lines_text l.image.bytes.now l.image.len l.width l.start l.size l.tail l.k) l.initial.out l.at l.out l.next
     × (length l.out ≡ length l.initial.out)
-
-abbrev pub decreases-loop-k : goal.decreases-loop-k
-decreases-loop-k l = l.count - l.k

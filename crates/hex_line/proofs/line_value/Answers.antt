@@ -14,16 +14,18 @@ base : (w : ℕ) → w ≤ 56 → 1 * 2 ^ w % 2 ^ 64 ≡ 2 ^ w
 base w h = rw one-mul (mod-eq_of_lt (omega (arith, pow_mono h)))
 
 pub nonzero_rem-result : goal.nonzero_rem-result
-nonzero_rem-result c =
-    rw (base c.args.count c.requires.small.1) (pow_pos c.args.count)
+nonzero_rem-result c = rw (base c.args.count c.if-count-gt56.false) (pow_pos c.args.count)
 
 pub returns : goal.returns
 returns c =
     let a = c.args in
     let bytes = a.image.bytes.now in
     let i = a.from in
+    let few : a.count ≤ 56 = c.if-count-gt56.false in
     let behind = 64 - (i % 8 + a.count) in
     let place : i / 8 * 8 + i % 8 ≡ i = omega arith in
-    let all : i % 8 + a.count + behind ≡ 64 = omega (arith, c.requires.small.1) in
-    let cut = bits_cut bytes a.image.len (8 * length bytes) (i / 8 * 8) (i % 8) a.count behind (omega (arith, c.requires.small.1, c.requires.inside.0)) (omega (arith, c.requires.small.1, c.requires.inside.1)) in
-    rw (base a.count c.requires.small.1, c.read_word-word.ensures) (sym (rw (all, place) at cut))
+    let all : i % 8 + a.count + behind ≡ 64 = omega (arith, few) in
+    let reach = c.if-whole_bytes-from.false in
+    let least = c.whole_bytes.ensures in
+    let cut = bits_cut bytes a.image.len (8 * length bytes) (i / 8 * 8) (i % 8) a.count behind (omega (arith, few, reach, least)) (omega (arith, few, reach, least)) in
+    (few, rw (base a.count few, c.read_word-word.ensures) (sym (rw (all, place) at cut)))

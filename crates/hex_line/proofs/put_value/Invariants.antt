@@ -13,6 +13,3 @@ invariant-loop-k l = (l.k ≤ l.count)
     × (l.next ≡ l.at + l.k)
     × Writes (pieces (λ j. digit_char Lower (l.value / 2 ^ ((l.count - 1 - j) * 4) % 2 ^ 4) ∷ []) l.k) l.initial.out l.at l.out l.next
     × (length l.out ≡ length l.initial.out)
-
-abbrev pub decreases-loop-k : goal.decreases-loop-k
-decreases-loop-k l = l.count - l.k

@@ -8,6 +8,3 @@ use Rattle.text_parts.proofs.put_parts.Given as goal
 
 abbrev pub invariant-loop-k : goal.invariant-loop-k
 invariant-loop-k l = (l.k ≤ l.count) × Writes (parts_text l.s l.size (l.tail ∷ []) l.k) l.initial.out l.at l.out l.next × (length l.out ≡ length l.initial.out)
-
-abbrev pub decreases-loop-k : goal.decreases-loop-k
-decreases-loop-k l = l.count - l.k
