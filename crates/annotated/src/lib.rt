@@ -44,7 +44,14 @@ impl<'a> Listed<'a> {
         }
         let next = listing::put_heading(out, options, widths);
         Ok(listing_spans::put_lines(
-            out, next, self.image, options, widths, places, spans, self.sources,
+            out,
+            next,
+            self.image,
+            options,
+            widths,
+            places,
+            spans,
+            self.sources,
         ))
     }
 

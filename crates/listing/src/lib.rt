@@ -155,8 +155,8 @@ fn out_of_range(options: FormatAnnotatedOptions) -> bool
 }
 
 impl ListingOptions {
-    #[tactic(auto, using(crate::proofs::Columns::bad_base, crate::proofs::Columns::bad_other, crate::proofs::Columns::none_bad, crate::proofs::Columns::radix_inside, crate::proofs::Columns::group_inside))]
     // The options, or none where one of them is outside its range, the cause of refusal 2.
+    #[tactic(auto, using(crate::proofs::Columns::bad_base, crate::proofs::Columns::bad_other, crate::proofs::Columns::none_bad, crate::proofs::Columns::radix_inside, crate::proofs::Columns::group_inside))]
     pub fn new(options: FormatAnnotatedOptions) -> Option<ListingOptions>
         ensures { MatchOption result (bad_annotated options ≡ true) (λ o. o.given ≡ options) }
     {

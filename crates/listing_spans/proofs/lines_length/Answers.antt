@@ -2,7 +2,7 @@
 -- Assumes nothing.
 use mathlib.Core.Path.{◌≡◌, ap, ap₂, ◌∙◌}
 use mathlib.Core.List.{List}
-use Prim.Native.Nat.{ℕ, ◌+◌, ◌≤◌, ◌<◌}
+use Prim.Native.Nat.{ℕ, ◌+◌, ◌<◌}
 use native.Mathlib.Omega.{arith}
 use lib.ListN.{length, get_or, length-append}
 use Rattle.output.specs.Pieces.{pieces}
@@ -19,9 +19,6 @@ loop-place-init c =
     let a = c.args in
     (λ bytes len. ap length (pieces_none _), omega arith, λ j h. each_get (λ p. p < length a.spans.columns.offsets.now) a.places.now j 0 c.requires.places.1 h)
 
-pub span-span-requires : goal.span-span-requires
-span-span-requires c = c.loop-place.invariant.2 c.loop-place.place-index c.loop-place-test.true
-
 pub span_length-needed-requires : goal.span_length-needed-requires
 span_length-needed-requires c =
     let a = c.args in
@@ -34,12 +31,6 @@ span_length-needed-requires c =
       narrow = (c.requires.narrow.0, rw (c.requires.narrow.1, span.offset, span.addr) fits);
       sound = (sound.0, sound.1, rw (span.offset, span.size, span.location) (sound_at a.options.given (lent columns) a.sources.firmware.now a.sources.protocol.now sound.2 _ place));
     }
-
-pub overflow_add-needed : goal.overflow_add-needed
-overflow_add-needed c =
-    let l = c.loop-place in
-    let turns : l.place-index ≤ 4096 = omega (arith, c.loop-place-test.true, c.requires.places.0) in
-    omega (arith, l.invariant.1, c.span_length-needed.ensures.1)
 
 pub loop-place-preserved : goal.loop-place-preserved
 unfolding line_at

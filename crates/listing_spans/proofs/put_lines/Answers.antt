@@ -19,9 +19,6 @@ loop-place-init c =
     let a = c.args in
     (rw pieces_none (writes_nothing _ _), refl, λ j h. each_get (λ p. p < length a.spans.columns.offsets.now) a.places.now j 0 c.requires.places h)
 
-pub span-span-requires : goal.span-span-requires
-span-span-requires c = c.loop-place.invariant.2 c.loop-place.place-index c.loop-place-test.true
-
 pub put_span-next-requires : goal.put_span-next-requires
 unfolding line_at
 put_span-next-requires c =

@@ -32,16 +32,11 @@ made_length o w bytes len s firmware protocol places e f =
       length-append (heading o w) (flat_map (line_at o w bytes len s firmware protocol) places),
     )
 
-pub lines_length-lines-requires : goal.lines_length-lines-requires
-lines_length-lines-requires c =
+pub lines_length-lines-requires-clause-places : goal.lines_length-lines-requires-clause-places
+lines_length-lines-requires-clause-places c =
     let a = c.args.self in
     let few : length c.args.places.now ≤ 4096 = omega (arith, ap length c.requires, in_order_length a.spans.columns.offsets.now, a.few) in
-    let below : Each (λ p. p < length a.spans.columns.offsets.now) c.args.places.now = rw c.requires (in_order_below a.spans.columns.offsets.now) in
-    record {
-      narrow = (c.column_widths-widths.ensures.small, rw (c.list.ensures.0, c.list.ensures.1) at c.column_widths-widths.ensures.measured);
-      sound = (a.short_firmware, a.short_protocol, a.sound);
-      places = (few, below);
-    }
+    (few, rw c.requires (in_order_below a.spans.columns.offsets.now))
 
 pub returns-then-out-needed : goal.returns-then-out-needed
 returns-then-out-needed c =
@@ -51,21 +46,8 @@ returns-then-out-needed c =
     let lines = c.lines_length-lines.ensures.0 a.image.bytes.now a.image.len in
     exports_no_room (annotated_text a.options.given a.image.bytes.now a.image.len (lent a.spans.columns) a.sources.firmware.now a.sources.protocol.now) _ (omega arith) c.if-out-needed.true
 
-pub put_heading-next-requires : goal.put_heading-next-requires
-put_heading-next-requires c = omega arith
-
-pub put_lines-requires : goal.put_lines-requires
-put_lines-requires c =
-    let a = c.args.self in
-    let w = c.column_widths-widths in
-    let below : Each (λ p. p < length a.spans.columns.offsets.now) c.args.places.now = rw c.requires (in_order_below a.spans.columns.offsets.now) in
-    let lines = c.lines_length-lines.ensures.0 a.image.bytes.now a.image.len in
-    record {
-      widths = rw (c.list.ensures.0, c.list.ensures.1) at w.ensures.measured;
-      sound = a.sound;
-      places = below;
-      room = omega arith;
-    }
+pub put_lines-requires-clause-places : goal.put_lines-requires-clause-places
+put_lines-requires-clause-places c = rw c.requires (in_order_below c.args.self.spans.columns.offsets.now)
 
 pub returns : goal.returns
 returns c =

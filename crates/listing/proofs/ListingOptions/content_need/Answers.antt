@@ -20,8 +20,8 @@ unfolding content_digits
 returns-then-wide-lt2 c =
     let counted : c.parts-digits.result ≡ content_digits c.args.self.given c.args.size = c.parts-digits.ensures ∙ ap (ceil_div c.args.size) c.args.self.bits in
     elim c.then-wide-lt2.branch [
-      then-wide-lt2-via-then-wide-lt2 w ↦ (sym (need_few _ _ (rw (← counted) w.if-wide-lt2.true)), omega arith)
-    | then-wide-lt2-via-else-wide-lt2+then-group-wide w ↦
+      | then-wide-lt2-via-then-wide-lt2 w ↦ (sym (need_few _ _ (rw (← counted) w.if-wide-lt2.true)), omega arith)
+      | then-wide-lt2-via-else-wide-lt2+then-group-wide w ↦
           (sym (need_many _ _ (rw (← counted) (omega (arith, w.if-wide-lt2.false))) (rw (← counted) w.if-group-wide.true)), omega arith)
     ]
 

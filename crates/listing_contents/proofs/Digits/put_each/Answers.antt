@@ -1,6 +1,6 @@
 -- `listing_contents::Digits::put_each` meets its contract: after k turns k digits are written.
 -- Assumes nothing.
-use mathlib.Core.Path.{◌≡◌, refl}
+use mathlib.Core.Path.{refl}
 use native.Mathlib.Omega.{arith}
 use Rattle.output.proofs.Order.{stride}
 use Rattle.output.proofs.Writes.{writes_nothing, writes_then, writes_length}
@@ -28,8 +28,3 @@ loop-k-preserved c =
       rw (spaced_next _ _ _ _ _ _) (writes_then l.invariant.0 (writes_then c.put_between-next.ensures c.put_digit-next.ensures)),
       omega (arith, l.invariant.1, writes_length c.put_between-next.ensures, writes_length c.put_digit-next.ensures),
     )
-
-pub returns : goal.returns
-returns c =
-    let done : c.loop-k.k ≡ c.args.count = omega arith in
-    rw done at c.loop-k.invariant.0

@@ -1,6 +1,5 @@
 -- `listing_contents::Digits::put_groups` meets its contract: none, groups of whole bytes, or runs.
 -- Assumes nothing.
-use native.Mathlib.Omega.{arith}
 use Rattle.output.proofs.Writes.{writes_nothing}
 use Rattle.listing_contents.proofs.Groups.{groups_none}
 use Rattle.listing_contents.proofs.Digits.put_groups.Goals as goal

@@ -1,8 +1,7 @@
 -- `listing_contents::Digits::put_runs` meets its contract: after k turns k groups are written.
 -- Assumes nothing.
-use mathlib.Core.Path.{◌≡◌, refl}
-use Prim.Native.Nat.{◌+◌, ◌*◌, ◌≤◌}
-use native.Mathlib.Nat.{mul-le-mul}
+use mathlib.Core.Path.{refl}
+use Prim.Native.Nat.{◌+◌, ◌*◌}
 use native.Mathlib.Omega.{arith}
 use Rattle.output.proofs.Order.{stride}
 use Rattle.output.proofs.Writes.{writes_nothing, writes_then, writes_length}
@@ -10,19 +9,8 @@ use Rattle.digits.proofs.Run.{run_length}
 use Rattle.listing_contents.proofs.Groups.{groups_none, groups_next, groups_length}
 use Rattle.listing_contents.proofs.Digits.put_runs.Goals as goal
 
-pub overflow_mul-step : goal.overflow_mul-step
-overflow_mul-step c =
-    let a = c.args.self in
-    omega (arith, mul-le-mul {n₁ = a.group} {m₁ = a.width} {n₂ = 64} {m₂ = 5} a.some.1 a.few.1)
-
 pub loop-k-init : goal.loop-k-init
 loop-k-init c = (rw (groups_none _ _ _ _ _) (writes_nothing _ _), refl)
-
-pub overflow_mul-from : goal.overflow_mul-from
-overflow_mul-from c = omega (arith, stride c.loop-k.k c.args.count (c.args.self.group * c.args.self.width) c.loop-k-test.true)
-
-pub overflow_add-from : goal.overflow_add-from
-overflow_add-from c = omega (arith, stride c.loop-k.k c.args.count (c.args.self.group * c.args.self.width) c.loop-k-test.true)
 
 pub put_run-next-requires : goal.put_run-next-requires
 put_run-next-requires c =
@@ -46,8 +34,3 @@ loop-k-preserved c =
       rw (groups_next _ _ _ _ _ _) (writes_then l.invariant.0 (writes_then c.put_run-next.ensures c.put-next.ensures)),
       omega (arith, l.invariant.1, writes_length c.put_run-next.ensures, writes_length c.put-next.ensures),
     )
-
-pub returns : goal.returns
-returns c =
-    let done : c.loop-k.k ≡ c.args.count = omega arith in
-    rw done at c.loop-k.invariant.0
