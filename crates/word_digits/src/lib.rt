@@ -18,6 +18,8 @@ fn pack(q0: u64, q1: u64, q2: u64, q3: u64) -> u64
     q0 + q1 * 0x1_0000 + q2 * 0x1_0000_0000 + q3 * 0x1_0000_0000_0000
 }
 
+// One function for each width: of a const parameter the masks would be sums of shifts, no plainer.
+
 // The characters of eight digits of 2 bits: pairs of digits are cut apart in one step, and digits below
 // 8 are no letters.
 fn two_word(word: u64) -> u64
