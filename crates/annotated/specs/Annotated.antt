@@ -5,7 +5,8 @@ use Rattle.outcome.specs.Outcome.{Outcome, refused, in_room}
 use Rattle.span_range.specs.Range.{spans_checked}
 use Rattle.sources.specs.Sources.{bad_text}
 use Rattle.listing.specs.declared.FormatAnnotatedOptions.{FormatAnnotatedOptions}
-use Rattle.listing.specs.Listing.{bad_annotated, Spans, unequal, annotated_text}
+use Rattle.listing.specs.Listing.{bad_annotated, Spans, annotated_text}
+pub use Rattle.listing.specs.Listing.{unequal}
 use Rattle.listing_spans.specs.Faults.{span_fault}
 
 -- Refusals 6, 7 and 8, and the text, of spans in their range.
