@@ -25,7 +25,13 @@ fn c_array_length(image: Image, radix: ByteRadix, count: usize, width: usize) ->
 
 // Stores the array of `count` bytes.
 #[tactic(auto, using(crate::proofs::Lengths::c_array_parts))]
-fn write_c_array(image: Image, radix: ByteRadix, count: usize, width: usize, out: &mut [u8]) -> usize
+fn write_c_array(
+    image: Image,
+    radix: ByteRadix,
+    count: usize,
+    width: usize,
+    out: &mut [u8],
+) -> usize
     requires { (count < 2 ^ 32) × (count ≡ ceil_div image.len 8) × (width ≡ address_width image.len) × (length (c_array_text (radix_number radix) image.bytes.now image.len) ≤ length out.old) }
     ensures { Writes (c_array_text (radix_number radix) image.entry.bytes.now image.entry.len) out.old 0 out.new result }
 {
