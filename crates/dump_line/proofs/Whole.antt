@@ -1,17 +1,16 @@
 -- Lines of whole bytes of the image: their digits are rows of bytes, and their characters are those of the image's bytes.
 -- Assumes nothing.
-use mathlib.Core.Path.{◌≡◌, refl, sym, ap, ◌∙◌}
+use mathlib.Core.Path.{◌≡◌, sym, ap, ◌∙◌}
 use mathlib.Core.List.{List, [], ◌∷◌, ◌++◌, append_assoc}
 use Prim.Native.Nat.{ℕ, zero, suc, ◌+◌, ◌-◌, ◌*◌, ◌/◌, ◌%◌, ◌<◌, ◌≤◌}
 use native.Mathlib.Omega.{arith}
 use lib.ListN.{length, get_or, length-append}
 use borrow.Author.Tests.{lt-ltb, eq-eqb, ne_eqb}
-use Rattle.std.proofs.lemmas.Grind.{same_number_lists}
 use Rattle.bitvec.specs.Bits.{byte_at}
 use Rattle.bitvec.proofs.Words.{byte_whole}
 use Rattle.output.specs.Ascii.{ascii}
 use Rattle.output.specs.Pieces.{pieces, leading, joined, every}
-use Rattle.output.proofs.Pieces.{pieces_equal, pieces_length, pieces_at}
+use Rattle.output.proofs.Pieces.{pieces_equal}
 use Rattle.output.proofs.Joined.{joined_next, joined_room}
 use Rattle.numbers.specs.Digits.{digits_of}
 use Rattle.rows.specs.declared.ByteDigits.{ByteDigits}
@@ -132,11 +131,3 @@ group_last bytes len first k n p l h =
 pub whole_char : (bytes : List ℕ) (len i : ℕ) → i * 8 + 8 ≤ len → get_or bytes i 0 < 256 → dump_char bytes len (i * 8) ≡ printed (get_or bytes i 0)
 unfolding dump_char
 whole_char bytes len i h l = simp (lt-ltb (i * 8) len (omega arith)) (ap printed (byte_whole bytes len i h l))
-
--- A text of n characters that are known one by one.
-pub singles : (f : ℕ → ℕ) (s : List ℕ) (n : ℕ) → length s ≡ n → ((k : ℕ) → k < n → get_or s k 0 ≡ f k) → s ≡ pieces (λ k. f k ∷ []) n
-singles f s n e h =
-    let item : ℕ → List ℕ = λ k. f k ∷ [] in
-    let one : (k : ℕ) → k < n → get_or (pieces item n) (k * 1 + 0) 0 ≡ f k = λ k l. pieces_at item 1 n (λ i m. refl) k 0 l (omega arith) in
-    same_number_lists s (pieces item n) (e ∙ sym (pieces_length item 1 n (λ i m. refl) ∙ omega arith))
-    (λ k l. h k (omega arith) ∙ sym (let place : k * 1 + 0 ≡ k = omega arith in rw place at (one k (omega arith))))
