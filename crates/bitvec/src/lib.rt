@@ -3,8 +3,8 @@
 // bytes. The Rust's BitVec holds its length; here both are lent, as one value.
 #![tactic(auto)]
 
-ghost use Rattle.std.specs.Prelude.{◌≡◌, ◌+◌, ◌*◌, ◌/◌, ◌≤◌, ◌<◌, ◌^◌, min, length};
-ghost use Rattle.bitvec.specs.Bits.{bit_at, bits_at};
+ghost use Rattle.std.specs.Prelude.{◌≡◌, true, false, MatchOption, ◌+◌, ◌*◌, ◌/◌, ◌%◌, ◌≤◌, ◌<◌, ◌^◌, min, length, take, drop};
+ghost use Rattle.bitvec.specs.Bits.{bit_at, bits_at, byte_at};
 ghost use Rattle.bitvec.specs.Size.{bad_size, ceil_div};
 
 // The largest image, in bits.
@@ -19,6 +19,28 @@ pub struct BitOffset(pub usize);
 pub struct UnitAddress(pub usize);
 
 impl BitOffset {
+    // The offset so many bits behind.
+    pub fn plus(self, bits: usize) -> BitOffset
+        requires { self.0 + bits < 2 ^ 64 }
+        ensures { result.0 ≡ self.0 + bits }
+    {
+        BitOffset(self.0 + bits)
+    }
+
+    // The byte that holds this bit.
+    pub fn byte(self) -> usize
+        ensures { result ≡ self.0 / 8 }
+    {
+        self.0 / 8
+    }
+
+    // How many bits of that byte are before this one.
+    pub fn shift(self) -> usize
+        ensures { result ≡ self.0 % 8 }
+    {
+        self.0 % 8
+    }
+
     // The address of the unit that holds this bit.
     pub fn address(self, unit: usize) -> UnitAddress
         requires { 0 < unit }
@@ -28,11 +50,28 @@ impl BitOffset {
     }
 }
 
+impl From<u32> for BitOffset {
+    ghost from_gives = { λ offset b. b.0 ≡ offset };
+
+    fn from(offset: u32) -> BitOffset {
+        BitOffset(offset as usize)
+    }
+}
+
 // An image as it is lent: its bytes, and how many bits it has.
 #[derive(Clone, Copy)]
 pub struct Image<'a> {
     pub bytes: &'a [u8],
     pub len: usize,
+}
+
+// An image that has passed the size check.
+#[derive(Clone, Copy)]
+pub struct GoodImage<'a> {
+    pub image: Image<'a>,
+    pub ghost good: { bad_size image.bytes.now image.len ≡ false },
+    pub ghost few: { image.len ≤ 16777216 },
+    pub ghost inside: { image.len ≤ 8 * length image.bytes.now },
 }
 
 impl<'a> Image<'a> {
@@ -48,6 +87,17 @@ impl<'a> Image<'a> {
         ensures { result ≡ bad_size self.entry.bytes.now self.entry.len }
     {
         MAX_BITS < self.len || self.bytes.len() < self.len.div_ceil(8)
+    }
+
+    // The image, where it passes the size check.
+    #[tactic(auto, using(crate::proofs::Size::size_good))]
+    pub fn good(self) -> Option<GoodImage<'a>>
+        ensures { MatchOption result (bad_size self.entry.bytes.now self.entry.len ≡ true) (λ g. g.image ≡ self.entry) }
+    {
+        if self.bad_size() {
+            return None;
+        }
+        Some(GoodImage { image: self })
     }
 
     // How many of its bytes are whole: within the bit length, and lent.
@@ -124,6 +174,45 @@ impl<'a> Image<'a> {
             return self.read_each(BitOffset(index), 8);
         }
         self.bytes[index / 8]
+    }
+}
+
+// Bytes of an image that are whole: within the bit length, and lent.
+#[derive(Clone, Copy)]
+pub struct WholeBytes<'a> {
+    pub image: Image<'a>,
+    pub first: usize,
+    pub count: usize,
+    pub ghost inside: { ((first + count) * 8 ≤ image.len) × (first + count ≤ length image.bytes.now) },
+}
+
+impl<'a> WholeBytes<'a> {
+    // These bytes, as they are lent.
+    pub fn slice(self) -> &'a [u8]
+        ensures { result.now ≡ take self.entry.count (drop self.entry.first self.entry.image.bytes.now) }
+    {
+        &self.image.bytes[self.first..self.first + self.count]
+    }
+
+    // `count` of them, from the one at `from` on.
+    pub fn part(self, from: usize, count: usize) -> WholeBytes<'a>
+        requires { from + count ≤ self.count }
+        ensures { (result.image ≡ self.entry.image) × (result.first ≡ self.entry.first + from) × (result.count ≡ count) }
+    {
+        WholeBytes {
+            image: self.image,
+            first: self.first + from,
+            count,
+        }
+    }
+
+    // The byte at a place among them.
+    #[tactic(auto, using(crate::proofs::Words::byte_whole))]
+    pub fn byte(self, place: usize) -> u8
+        requires { place < self.count }
+        ensures { result ≡ byte_at self.entry.image.bytes.now self.entry.image.len (self.entry.first + place) }
+    {
+        self.image.bytes[self.first + place]
     }
 }
 

@@ -23,15 +23,16 @@ use bitvec::Image;
 use format_dump::DumpOptions;
 use format_list::{FormatListOptions, ListStrings};
 use listing::{FormatAnnotatedOptions, SpanColumns};
-use outcome::Export;
+use outcome::{Answer, Export};
 use sources::Sources;
 
 // Stores the value of an answer and returns its number.
 fn give(export: Export, value: &mut u64) -> u32
     ensures { (result ≡ (answer_of export).number) × (value.new ≡ (answer_of export).value) }
 {
-    *value = outcome::value(export) as u64;
-    outcome::number(export)
+    let answer = Answer::from(export);
+    *value = answer.value as u64;
+    answer.number
 }
 
 #[unsafe(no_mangle)]

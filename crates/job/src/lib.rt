@@ -12,7 +12,7 @@ ghost use Rattle.job.specs.Job.{word, column, bad_job, job_outcome, printed};
 use bitvec::{Image, parts};
 use intelhex::format_intelhex;
 use numbers::{Letters, Radix, put_number};
-use outcome::Export;
+use outcome::{Answer, Export};
 use output::put_all;
 
 // The little-endian 32-bit number at a place.
@@ -132,6 +132,6 @@ pub fn run_job(job: &[u8], out: &mut [u8; 65536]) -> usize
     }
     match export_job(job, out) {
         Ok(length) => length,
-        Err(refusal) => put_refused(refusal.number(), out),
+        Err(refusal) => put_refused(Answer::from(refusal).number, out),
     }
 }

@@ -15,6 +15,19 @@ pub enum Letters {
     Upper,
 }
 
+// How many bits a digit has: at most 5, since no base is above 32.
+#[derive(Clone, Copy)]
+pub struct DigitWidth {
+    pub bits: usize,
+    pub ghost few: { bits ≤ 5 },
+}
+
+impl DigitWidth {
+    pub const BINARY: DigitWidth = DigitWidth { bits: 1 };
+
+    pub const HEX: DigitWidth = DigitWidth { bits: 4 };
+}
+
 // The radix of a number that is written: 2 to 36.
 #[derive(Clone, Copy)]
 pub struct Radix {

@@ -21,60 +21,52 @@ pub enum Refusal {
 // What an exporter answers: the length of the text, or a refusal.
 pub type Export = Result<usize, Refusal>;
 
-impl Refusal {
-    // The paper's number.
-    pub fn number(self) -> u32
-        ensures { result ≡ (refusal_of self).number }
-    {
-        match self {
-            Refusal::ImageSize => 1,
-            Refusal::OptionRange => 2,
-            Refusal::SpanRange(_) => 3,
-            Refusal::EmptyImage => 4,
-            Refusal::AddressRange => 5,
-            Refusal::SourceText => 6,
-            Refusal::SpanFault(_) => 7,
-            Refusal::NoRoom(_) => 8,
-        }
-    }
+// The paper's number and value of an answer.
+#[derive(Clone, Copy)]
+pub struct Answer {
+    pub number: u32,
+    pub value: usize,
+}
 
-    // The value that comes with it: a place, a length, or 0.
-    pub fn value(self) -> usize
-        ensures { result ≡ (refusal_of self).value }
-    {
-        match self {
-            Refusal::SpanRange(place) | Refusal::SpanFault(place) => place,
-            Refusal::NoRoom(needed) => needed,
-            _ => 0,
-        }
+impl From<Refusal> for Answer {
+    ghost from_gives = { λ refusal a. (a.number ≡ (refusal_of refusal).number) × (a.value ≡ (refusal_of refusal).value) };
+
+    fn from(refusal: Refusal) -> Answer {
+        let (number, value) = match refusal {
+            Refusal::ImageSize => (1, 0),
+            Refusal::OptionRange => (2, 0),
+            Refusal::SpanRange(place) => (3, place),
+            Refusal::EmptyImage => (4, 0),
+            Refusal::AddressRange => (5, 0),
+            Refusal::SourceText => (6, 0),
+            Refusal::SpanFault(place) => (7, place),
+            Refusal::NoRoom(needed) => (8, needed),
+        };
+        Answer { number, value }
     }
 }
 
-// The paper's number of an answer, 0 for a text.
-pub fn number(export: Export) -> u32
-    ensures { result ≡ (answer_of export).number }
-{
-    match export {
-        Ok(_) => 0,
-        Err(refusal) => refusal.number(),
-    }
-}
+// A text has the number 0 and its length.
+impl From<Export> for Answer {
+    ghost from_gives = { λ export a. (a.number ≡ (answer_of export).number) × (a.value ≡ (answer_of export).value) };
 
-// The value that comes with an answer: the length of the text, or what comes with the refusal.
-pub fn value(export: Export) -> usize
-    ensures { result ≡ (answer_of export).value }
-{
-    match export {
-        Ok(length) => length,
-        Err(refusal) => refusal.value(),
+    fn from(export: Export) -> Answer {
+        match export {
+            Ok(length) => Answer {
+                number: 0,
+                value: length,
+            },
+            Err(refusal) => Answer::from(refusal),
+        }
     }
 }
 
 // Whether an option is outside its range, the cause of refusal 2.
+#[tactic(auto, unfolding(crate::specs::Outcome::outside))]
 pub fn outside(low: usize, high: usize, option: usize) -> bool
     ensures { result ≡ outside low high option }
 {
-    option < low || high < option
+    !(low..=high).contains(&option)
 }
 
 // Whether a string is longer than 256 bytes, which is outside its range.
