@@ -2,15 +2,43 @@
 // an absent one, and the sizes: refusal 3 of document 01.
 #![tactic(auto)]
 
-ghost use Rattle.std.specs.Prelude.{◌≡◌, ℕ, ◌<◌, length, MatchOption};
+ghost use Rattle.std.specs.Prelude.{◌≡◌, false, ℕ, ◌≤◌, ◌<◌, length, MatchOption, MatchResult};
 ghost use Rattle.span_range.specs.AtMost.{AtMost};
-ghost use Rattle.span_range.specs.Range.{long_list, bad_span, fault_at};
+ghost use Rattle.span_range.specs.Range.{long_list, bad_span, fault_at, IsCause};
 
 use bitvec::MAX_BITS;
 use ordering::{ABSENT, SpanList};
+use outcome::Refusal;
 
 // Half of the largest image: where no offset and no size is as large, no span ends behind the image.
 const HALF_LIMIT: u32 = 8388608;
+
+// A list in its range: at most 4,096 spans, none of them bad.
+#[derive(Clone, Copy)]
+pub struct GoodSpans<'a> {
+    pub list: SpanList<'a>,
+    pub ghost few: { length list.offsets.now ≤ 4096 },
+    pub ghost short: { long_list list.offsets.now list.sizes.now ≡ false },
+    pub ghost good: { fault_at list.offsets.now list.sizes.now ≡ length list.offsets.now },
+}
+
+impl<'a> GoodSpans<'a> {
+    // The lent spans, where they are in their range, or refusal 3: its place is 4,096 where the list is
+    // long, and else that of the first bad span.
+    #[tactic(auto, using(crate::proofs::Good::short_list))]
+    pub fn new(offsets: &'a [u32], sizes: &'a [u32]) -> Result<GoodSpans<'a>, Refusal>
+        ensures { MatchResult result (λ s. (s.list.offsets.now ≡ offsets.now) × (s.list.sizes.now ≡ sizes.now)) (λ e. IsCause offsets.now sizes.now e) }
+    {
+        if long_list(offsets, sizes) {
+            return Err(Refusal::SpanRange(4096));
+        }
+        let list = SpanList { offsets, sizes };
+        match fault_at(list) {
+            Some(place) => Err(Refusal::SpanRange(place)),
+            None => Ok(GoodSpans { list }),
+        }
+    }
+}
 
 // Whether the list is long, the first cause of refusal 3.
 #[tactic(auto, unfolding(crate::specs::Range::long_list))]
