@@ -72,13 +72,11 @@ pub fn joined(spans: SpanList<'_>) -> u32
 fn first_fault(spans: SpanList<'_>) -> Option<usize>
     ensures { MatchOption result (fault_at spans.entry.offsets.now spans.entry.sizes.now ≡ length spans.entry.offsets.now) (λ p. (p < length spans.entry.offsets.now) × (p ≡ fault_at spans.entry.offsets.now spans.entry.sizes.now)) }
 {
-    // Tried: zip with the sizes under enumerate, whose proof did not close.
-    for (p, &offset) in spans.offsets.iter().enumerate() {
-        if bad_span(offset, spans.sizes[p]) {
-            return Some(p);
-        }
-    }
-    None
+    spans
+        .offsets
+        .iter()
+        .zip(spans.sizes)
+        .position(|(&offset, &size)| bad_span(offset, size))
 }
 
 // The same: where no offset and no size is half of the limit or more, no span need be looked at alone.
