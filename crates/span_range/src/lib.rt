@@ -23,16 +23,16 @@ pub struct GoodSpans<'a> {
 }
 
 impl<'a> GoodSpans<'a> {
-    // The lent spans, where they are in their range, or refusal 3: its place is 4,096 where the list is
-    // long, and else that of the first bad span.
-    #[tactic(auto, using(crate::proofs::Good::short_list))]
+    // The lent spans, where they are in their range, or refusal 3. Its place is that of the first bad
+    // span, or 4,096, which document 01 returns for a list that is long or of unequal slices.
+    #[tactic(auto, unfolding(crate::specs::Range::long_list))]
     pub fn new(offsets: &'a [u32], sizes: &'a [u32]) -> Result<GoodSpans<'a>, Refusal>
         ensures { MatchResult result (λ s. (s.list.offsets.now ≡ offsets.now) × (s.list.sizes.now ≡ sizes.now)) (λ e. IsCause offsets.now sizes.now e) }
     {
-        if long_list(offsets, sizes) {
-            return Err(Refusal::SpanRange(4096));
-        }
-        let list = SpanList { offsets, sizes };
+        let list = match SpanList::new(offsets, sizes) {
+            Some(list) if list.len() <= 4096 => list,
+            _ => return Err(Refusal::SpanRange(4096)),
+        };
         match fault_at(list) {
             Some(place) => Err(Refusal::SpanRange(place)),
             None => Ok(GoodSpans { list }),
@@ -40,15 +40,7 @@ impl<'a> GoodSpans<'a> {
     }
 }
 
-// Whether the list is long, the first cause of refusal 3.
-#[tactic(auto, unfolding(crate::specs::Range::long_list))]
-pub fn long_list(offsets: &[u32], sizes: &[u32]) -> bool
-    ensures { result ≡ long_list offsets.now sizes.now }
-{
-    4096 < offsets.len() || offsets.len() != sizes.len()
-}
-
-// Whether a span is bad, the other cause.
+// Whether a span is bad, the second cause.
 #[tactic(auto, unfolding(crate::specs::Range::bad_span))]
 fn bad_span(offset: u32, size: u32) -> bool
     ensures { result ≡ bad_span offset size }
