@@ -3,27 +3,15 @@
 // absent one, and the sizes. The blocks are given as two slices too, as document 01 lends them.
 #![tactic(auto)]
 
-ghost use Rattle.std.specs.Prelude.{◌≡◌, false, ◌≢◌, [], ◌≤◌, ◌<◌, length};
-ghost use Rattle.std.proofs.lemmas.List.Edits.{sets};
+ghost use Rattle.std.specs.Prelude.{◌≡◌, ◌≢◌, [], ◌≤◌, ◌<◌, length};
 ghost use Rattle.ordering.specs.Order.{in_order};
 ghost use Rattle.adjoining.specs.Adjoin.{Adjoin};
-ghost use Rattle.span_range.specs.Range.{long_list, fault_at};
 ghost use Rattle.blocks.specs.Blocks.{closed, blocks_of, blocks_found, Stores, Finds};
 
 use adjoining::all_adjoin;
 use ordering::{ABSENT, SpanList};
 use outcome::Refusal;
-use span_order::{order, order_within};
-use span_range::{fault_at, long_list};
-
-// A list in its range: at most 4,096 spans, none of them bad.
-#[derive(Clone, Copy)]
-struct GoodSpans<'a> {
-    list: SpanList<'a>,
-    ghost few: { length list.offsets.now ≤ 4096 },
-    ghost short: { long_list list.offsets.now list.sizes.now ≡ false },
-    ghost good: { fault_at list.offsets.now list.sizes.now ≡ length list.offsets.now },
-}
+use span_range::GoodSpans;
 
 // Closes a block: it is stored behind the others, unless its size is 0.
 fn close(
@@ -76,17 +64,6 @@ fn close_all(
     close(origin, size, count, block_offsets, block_sizes)
 }
 
-// The places of at most N spans, in order. Few are not sorted in the room that many need.
-fn put_order<const N: usize>(offsets: &[u32], places: &mut [u32])
-    requires { (length offsets.now ≤ N) × (N ≤ 4096) × (length offsets.now ≤ length places.old) }
-    ensures { places.new ≡ sets places.old 0 (in_order offsets.now) }
-{
-    if N <= 64 {
-        return order_within::<N>(offsets, places);
-    }
-    order(offsets, places);
-}
-
 // Orders at most N good spans and makes their blocks: the smaller N is, the less memory is set to zero.
 fn find_ordered<const N: usize>(
     spans: GoodSpans,
@@ -98,8 +75,8 @@ fn find_ordered<const N: usize>(
     ensures { Stores (blocks_of spans.entry.list.offsets.now spans.entry.list.sizes.now) 0 block_offsets.old block_offsets.new block_sizes.old block_sizes.new result }
 {
     let mut places = [0u32; N];
-    put_order::<N>(spans.list.offsets, &mut places);
-    let ordered = &places[..spans.list.offsets.len()];
+    span_order::order_within::<N>(spans.list.offsets, &mut places);
+    let ordered = &places[..spans.list.len()];
     close_all(spans, ordered, block_offsets, block_sizes)
 }
 
@@ -124,7 +101,7 @@ fn find_blocks(spans: GoodSpans, block_offsets: &mut [u32], block_sizes: &mut [u
     if all_adjoin(spans.list) {
         return one_block(spans, block_offsets, block_sizes);
     }
-    if spans.list.offsets.len() <= 64 {
+    if spans.list.len() <= 64 {
         return find_ordered::<64>(spans, block_offsets, block_sizes);
     }
     find_ordered::<4096>(spans, block_offsets, block_sizes)
@@ -160,7 +137,7 @@ fn good_blocks(
 ) -> Result<usize, Refusal>
     ensures { Finds (blocks_found spans.entry.list.offsets.now spans.entry.list.sizes.now (length block_offsets.old) (length block_sizes.old)) result block_offsets.old block_offsets.new block_sizes.old block_sizes.new }
 {
-    let n = spans.list.offsets.len();
+    let n = spans.list.len();
     if n <= block_offsets.len() && n <= block_sizes.len() {
         return Ok(find_blocks(spans, block_offsets, block_sizes));
     }
@@ -172,7 +149,6 @@ fn good_blocks(
 
 // The blocks of the lent spans, their offsets and sizes at the fronts of two slices: how many there
 // are, or refusal 3 with its place, or refusal 8 with how many there are.
-#[tactic(auto, using(span_range::proofs::Good::short_list), unfolding(crate::specs::Blocks::blocks_found))]
 pub fn get_blocks(
     offsets: &[u32],
     sizes: &[u32],
@@ -181,12 +157,6 @@ pub fn get_blocks(
 ) -> Result<usize, Refusal>
     ensures { Finds (blocks_found offsets.now sizes.now (length block_offsets.old) (length block_sizes.old)) result block_offsets.old block_offsets.new block_sizes.old block_sizes.new }
 {
-    if long_list(offsets, sizes) {
-        return Err(Refusal::SpanRange(4096));
-    }
-    let list = SpanList { offsets, sizes };
-    if let Some(place) = fault_at(list) {
-        return Err(Refusal::SpanRange(place));
-    }
-    good_blocks(GoodSpans { list }, block_offsets, block_sizes)
+    let spans = GoodSpans::new(offsets, sizes)?;
+    good_blocks(spans, block_offsets, block_sizes)
 }
