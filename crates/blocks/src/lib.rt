@@ -13,22 +13,23 @@ use ordering::{ABSENT, SpanList};
 use outcome::Refusal;
 use span_range::GoodSpans;
 
-// Closes a block: it is stored behind the others, unless its size is 0.
-fn close(
-    origin: u32,
+// A block: so many bits from an offset on.
+#[derive(Clone, Copy)]
+struct Block {
+    offset: u32,
     size: u32,
-    count: usize,
-    block_offsets: &mut [u32],
-    block_sizes: &mut [u32],
-) -> usize
-    requires { size ≢ 0 → (count < length block_offsets.old) × (count < length block_sizes.old) }
-    ensures { Stores (closed origin size []) count block_offsets.old block_offsets.new block_sizes.old block_sizes.new result }
+}
+
+// Closes a block: it is stored behind the others, unless its size is 0.
+fn close(block: Block, count: usize, block_offsets: &mut [u32], block_sizes: &mut [u32]) -> usize
+    requires { block.size ≢ 0 → (count < length block_offsets.old) × (count < length block_sizes.old) }
+    ensures { Stores (closed block.offset block.size []) count block_offsets.old block_offsets.new block_sizes.old block_sizes.new result }
 {
-    if size == 0 {
+    if block.size == 0 {
         return count;
     }
-    block_offsets[count] = origin;
-    block_sizes[count] = size;
+    block_offsets[count] = block.offset;
+    block_sizes[count] = block.size;
     count + 1
 }
 
@@ -48,20 +49,19 @@ fn close_all(
     ensures { Stores (blocks_of spans.entry.list.offsets.now spans.entry.list.sizes.now) 0 block_offsets.old block_offsets.new block_sizes.old block_sizes.new result }
 {
     let SpanList { offsets, sizes } = spans.list;
-    let mut origin: u32 = 0;
-    let mut size: u32 = 0;
+    let mut block = Block { offset: 0, size: 0 };
     let mut count: usize = 0;
     for &place in places {
         let offset = offsets[place as usize];
-        if offset == origin + size {
-            size += sizes[place as usize];
+        let size = sizes[place as usize];
+        if offset == block.offset + block.size {
+            block.size += size;
         } else if offset != ABSENT {
-            count = close(origin, size, count, block_offsets, block_sizes);
-            origin = offset;
-            size = sizes[place as usize];
+            count = close(block, count, block_offsets, block_sizes);
+            block = Block { offset, size };
         }
     }
-    close(origin, size, count, block_offsets, block_sizes)
+    close(block, count, block_offsets, block_sizes)
 }
 
 // Orders at most N good spans and makes their blocks: the smaller N is, the less memory is set to zero.
@@ -88,9 +88,9 @@ fn one_block(spans: GoodSpans, block_offsets: &mut [u32], block_sizes: &mut [u32
 {
     let SpanList { offsets, sizes } = spans.list;
     let last = offsets.len() - 1;
-    let origin = offsets[0];
-    let size = offsets[last] + sizes[last] - origin;
-    close(origin, size, 0, block_offsets, block_sizes)
+    let offset = offsets[0];
+    let size = offsets[last] + sizes[last] - offset;
+    close(Block { offset, size }, 0, block_offsets, block_sizes)
 }
 
 // Makes the blocks of good spans: those that adjoin need not be ordered.
