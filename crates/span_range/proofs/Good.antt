@@ -37,10 +37,6 @@ short_list offsets sizes e = go (ltb 4096 (length offsets)) (eqb (length offsets
     go false true p q e = (ltb-false _ _ p, eqb-true _ _ q)
     go false false p q e = absurd (false≢true (sym e))
 
-pub fault_most : (offsets sizes : List ℕ) → fault_at offsets sizes ≤ length offsets
-unfolding fault_at
-fault_most offsets sizes = first_most _ (length offsets)
-
 -- What a list of spans is checked to: its refusal, with the number and the value of it, and what follows where there is none.
 module _ {A : Type 0} (refuse : ℕ → ℕ → A) (good : A) (offsets sizes : List ℕ) where
   pub checked_refused : (r : Refusal) → IsCause offsets sizes r → spans_checked refuse offsets sizes good ≡ refuse (refusal_of r).number (refusal_of r).value
