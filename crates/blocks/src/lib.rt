@@ -1,6 +1,8 @@
 // The blocks of a span list (document 01, module 7): the spans in order make blocks, which are closed
 // one after the other. Spans are lent as two slices of numbers, the offsets, with 4294967295 for an
-// absent one, and the sizes. The blocks are given as two slices too, as document 01 lends them.
+// absent one, and the sizes. The blocks are given as two slices too, as document 01 lends them. That
+// these have room is said at three functions. Tried: a struct of the spans and the two slices that says
+// so, which the borrow checker does not cover where it is passed on.
 #![tactic(auto)]
 
 ghost use Rattle.std.specs.Prelude.{◌≡◌, ◌≢◌, [], ◌≤◌, ◌<◌, length};
@@ -81,16 +83,15 @@ fn find_ordered<const N: usize>(
 }
 
 // The block of good spans that adjoin.
-fn one_block(spans: GoodSpans, block_offsets: &mut [u32], block_sizes: &mut [u32]) -> usize
-    requires adjoin { Adjoin spans.list.offsets.now spans.list.sizes.now }
-    requires room { (length spans.list.offsets.now ≤ length block_offsets.old) × (length spans.list.offsets.now ≤ length block_sizes.old) }
-    ensures { Stores (blocks_of spans.entry.list.offsets.now spans.entry.list.sizes.now) 0 block_offsets.old block_offsets.new block_sizes.old block_sizes.new result }
+fn one_block(spans: GoodSpans) -> Block
+    requires { Adjoin spans.list.offsets.now spans.list.sizes.now }
+    ensures { blocks_of spans.entry.list.offsets.now spans.entry.list.sizes.now ≡ closed result.offset result.size [] }
 {
     let SpanList { offsets, sizes } = spans.list;
     let last = offsets.len() - 1;
     let offset = offsets[0];
     let size = offsets[last] + sizes[last] - offset;
-    close(Block { offset, size }, 0, block_offsets, block_sizes)
+    Block { offset, size }
 }
 
 // Makes the blocks of good spans: those that adjoin need not be ordered.
@@ -99,7 +100,7 @@ fn find_blocks(spans: GoodSpans, block_offsets: &mut [u32], block_sizes: &mut [u
     ensures { Stores (blocks_of spans.entry.list.offsets.now spans.entry.list.sizes.now) 0 block_offsets.old block_offsets.new block_sizes.old block_sizes.new result }
 {
     if all_adjoin(spans.list) {
-        return one_block(spans, block_offsets, block_sizes);
+        return close(one_block(spans), 0, block_offsets, block_sizes);
     }
     if spans.list.len() <= 64 {
         return find_ordered::<64>(spans, block_offsets, block_sizes);
