@@ -23,6 +23,7 @@ struct Block {
 }
 
 // Closes a block: it is stored behind the others, unless its size is 0.
+#[tactic(auto, unfolding(crate::specs::Blocks::closed))]
 fn close(block: Block, count: usize, block_offsets: &mut [u32], block_sizes: &mut [u32]) -> usize
     requires { block.size ≢ 0 → (count < length block_offsets.old) × (count < length block_sizes.old) }
     ensures { Stores (closed block.offset block.size []) count block_offsets.old block_offsets.new block_sizes.old block_sizes.new result }

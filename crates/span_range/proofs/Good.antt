@@ -15,7 +15,7 @@ use Rattle.outcome.specs.declared.Refusal.{Refusal}
 use Rattle.outcome.specs.declared.Refusal.TheVariants.{SpanRange}
 use Rattle.outcome.specs.Outcome.{refusal_of}
 use Rattle.ordering.specs.Order.{absent}
-use Rattle.ordering.proofs.Lists.{first_most, first_none}
+use Rattle.ordering.proofs.Lists.{first_none}
 use Rattle.span_range.specs.Range.{long_list, bad_span, fault_at, spans_checked, IsCause}
 
 -- A good span that has an offset ends within the largest image.

@@ -2,7 +2,7 @@
 -- Assumes nothing.
 use Rattle.std.proofs.Common.{◌≡◌, ℕ, ◌+◌, ◌-◌, ◌<◌, Bool, true, eqb, ◌&&◌, List, length, get_or, sym, ◌∙◌, arith, rules, length-append, eqb-true}
 use Rattle.std.proofs.lemmas.Bool.{and_parts}
-use Rattle.std.proofs.lemmas.Slice.Zip.{zip_turn, zip_end}
+use Rattle.std.proofs.lemmas.Slice.Zip.{zip_turn}
 use borrow.Author.Count.{below_more}
 use Rattle.adjoining.proofs.tested.Goals as goal
 
@@ -18,9 +18,6 @@ joins_next offsets sizes n end offset good e last joins t =
     let w = and_parts good (eqb end offset) t in
     below_more (Joins offsets sizes) n (joins w.0) (λ h. sym e ∙ sym (eqb-true end offset w.1) ∙ last h)
 
-pub loop-offset-init : goal.loop-offset-init
-loop-offset-init c = record { end = λ h. absurd (omega arith); adjoin = λ t j h. absurd (omega arith) }
-
 pub loop-offset-preserved : goal.loop-offset-preserved
 loop-offset-preserved c =
     let l = c.loop-offset in
@@ -31,16 +28,4 @@ loop-offset-preserved c =
     rw length-append record {
       end = λ h. rw same (omega (arith, turn.2 0, turn.3 0));
       adjoin = joins_next a.offsets.now a.sizes.now n l.end c.in-Some.field-0-0.now l.good (turn.2 0) l.invariant.end l.invariant.adjoin;
-    }
-
-pub returns : goal.returns
-returns c = λ t.
-    let l = c.loop-offset in
-    let a = c.args.spans in
-    let all : length l.yielded ≡ length a.offsets.now =
-    omega (arith, zip_end a.offsets.now a.sizes.now l.yielded c.into_iter-offset-iterator.result l.offset-iterator c.next.new.self c.next.result (search rules) (search rules) l.yielded_by c.in-None.is c.next.ensures.steps, a.same_length) in
-    record {
-      some = omega (arith, c.in-len1-up.len_at_least);
-      first = c.if-first.false;
-      next = λ k h. let same : k + 1 - 1 ≡ k = omega arith in rw same at (l.invariant.adjoin t (k + 1) (omega arith) (omega arith));
     }
