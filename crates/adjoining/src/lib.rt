@@ -15,23 +15,29 @@ fn first_apart(spans: SpanList<'_>) -> bool {
     }
 }
 
-// Whether there are spans and all adjoin. All are compared, so that no exit is in the loop.
+// Whether there are spans and all adjoin: each starts where the one before it ends, the first where it
+// starts itself. All are compared, so that no exit is in the loop.
 fn tested(spans: SpanList<'_>) -> bool
     ensures { result ≡ true → Adjoin spans.entry.offsets.now spans.entry.sizes.now }
 {
     let SpanList { offsets, sizes } = spans;
-    if offsets.is_empty() || offsets[0] == ABSENT {
+    let [first, ..] = offsets else {
+        return false;
+    };
+    if *first == ABSENT {
         return false;
     }
     let mut good = true;
-    for (k, &next) in offsets[1..].iter().enumerate() {
-        let end = offsets[k] as u64 + sizes[k] as u64;
-        good &= end == next as u64;
+    let mut end = *first as u64;
+    for (&offset, &size) in offsets.iter().zip(sizes) {
+        good &= end == offset as u64;
+        end = offset as u64 + size as u64;
     }
     good
 }
 
-// The same. That spans which adjoin are found to is left free: a wrong no costs time alone.
+// The same. That spans which adjoin are found to is left free: a wrong no costs time alone. A bool, since
+// a yes says all: the block is then that from the first offset to the last end.
 pub fn all_adjoin(spans: SpanList<'_>) -> bool
     ensures { result ≡ true → Adjoin spans.entry.offsets.now spans.entry.sizes.now }
 {

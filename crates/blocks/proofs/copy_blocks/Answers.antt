@@ -34,10 +34,6 @@ pub shared_whole_as_front-copy_from_slice : goal.shared_whole_as_front-copy_from
 shared_whole_as_front-copy_from_slice g c =
     (omega (arith, c.requires, c.find_blocks-count.ensures.counted, blocks_few c.args.spans.list.offsets.now c.args.spans.list.sizes.now), omega (arith, c.requires))
 
-pub shared_whole_as_front-copy_from_slice-2 : goal.shared_whole_as_front-copy_from_slice-2
-shared_whole_as_front-copy_from_slice-2 g c =
-    (omega (arith, c.requires, c.find_blocks-count.ensures.counted, blocks_few c.args.spans.list.offsets.now c.args.spans.list.sizes.now), omega (arith, c.requires))
-
 pub returns : goal.returns
 returns g c =
     let a = c.args in
