@@ -19,13 +19,6 @@ pub bytes_next : (bytes : List ℕ) (len from k : ℕ) → bytes_from bytes len 
 unfolding bytes_from
 bytes_next bytes len from k = table_next _ k
 
--- A byte that is a whole one of the image.
-pub whole_byte : (bytes : List ℕ) (len first k : ℕ) → (first + k) * 8 + 8 ≤ len → get_or bytes (first + k) 0 < 256
-    → bits_at bytes len (first * 8 + 8 * k) 8 ≡ get_or bytes (first + k) 0
-whole_byte bytes len first k h l =
-    let place : first * 8 + 8 * k ≡ (first + k) * 8 = omega arith in
-    rw place (byte_whole bytes len (first + k) h l)
-
 pub bytes_none : (bytes : List ℕ) (len from : ℕ) → bytes_from bytes len from 0 ≡ []
 unfolding bytes_from table
 bytes_none bytes len from = refl

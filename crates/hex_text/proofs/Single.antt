@@ -40,11 +40,6 @@ block_single unit b p q =
     let e = one_byte b p q in
     one_chunk unit b e ∙ rw (first_chunk unit b e)
 
--- The text of its records is that of the one.
-pub text_single : (bytes : List ℕ) (len unit : ℕ) (b : Block) → 0 < b.size → b.size ≤ 8
-    → flat_map (record_text bytes len) (block_plan unit b) ≡ record_text bytes len (single unit b)
-text_single bytes len unit b p q = rw (block_single unit b p q) (flat_one (record_text bytes len) (single unit b))
-
 one_data : (bytes : List ℕ) (len from : ℕ) → bytes_from bytes len from 1 ≡ bits_at bytes len from 8 ∷ []
 one_data bytes len from =
     let here : from + 8 * 0 ≡ from = omega arith in
@@ -68,13 +63,3 @@ texts bytes len p k = flat_map (record_text bytes len) (block_plan p.unit.bits (
 -- The digits of byte b are stored.
 abbrev pub Stored : List (List ℕ) → ℕ → Type 0
 Stored pairs b = get_or pairs b [] ≡ byte_text Upper b
-
--- One more store.
-pub stored_more : (pairs : List (List ℕ)) (k : ℕ) (x : List ℕ) → length pairs ≡ 256 → k < 256 → ((b : ℕ) → b < k → Stored pairs b) → x ≡ byte_text Upper k
-    → (length (set pairs k x) ≡ 256) × ((b : ℕ) → b < k + 1 → Stored (set pairs k x) b)
-stored_more pairs k x n h stored here = (
-  length-set pairs k x ∙ n,
-  below_more (Stored (set pairs k x)) k
-      (λ b l. rw (get_or-set_other pairs k b x [] (omega (arith, l))) (stored b l))
-      (rw (get_or-set_same pairs k x [] (omega (arith, h, n))) here),
-)
