@@ -1,10 +1,9 @@
 -- Laws of the text of records: bytes as digits, the checksum, and lengths.
 -- Assumes nothing.
-use Rattle.std.proofs.Common.{◌≡◌, ℕ, ◌+◌, ◌*◌, ◌/◌, ◌%◌, ◌<◌, ◌≤◌, List, [], ◌∷◌, ◌++◌, length, get_or, refl, ap, ◌∙◌, append_assoc, arith, length-append}
+use Rattle.std.proofs.Common.{◌≡◌, ℕ, ◌+◌, ◌*◌, ◌/◌, ◌%◌, ◌<◌, List, [], ◌∷◌, ◌++◌, length, refl, ap, ◌∙◌, append_assoc, arith, length-append}
 use mathlib.Core.List.{flat_map}
 use Rattle.bitvec.specs.Bits.{bits_at}
 use Rattle.bitvec.proofs.Bits.{bits_small}
-use Rattle.bitvec.proofs.Words.{byte_whole}
 use Rattle.output.specs.Ascii.{ascii}
 use Rattle.numbers.specs.declared.Letters.TheVariants.{Upper}
 use Rattle.numbers.specs.Digits.{byte_text}

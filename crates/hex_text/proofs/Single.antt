@@ -1,6 +1,6 @@
 -- Laws of blocks of one byte: their plan is one record, and its text.
 -- Assumes nothing.
-use Rattle.std.proofs.Common.{◌≡◌, ℕ, ◌+◌, ◌*◌, ◌/◌, ◌%◌, ◌<◌, ◌≤◌, List, [], ◌∷◌, ◌++◌, ◌∙◌, arith, length, get_or, set, get_or-set_other, get_or-set_same, length-set, below_more}
+use Rattle.std.proofs.Common.{◌≡◌, ℕ, ◌+◌, ◌*◌, ◌/◌, ◌%◌, ◌<◌, ◌≤◌, List, [], ◌∷◌, ◌++◌, ◌∙◌, arith, get_or}
 use mathlib.Core.List.{flat_map}
 use Rattle.bitvec.specs.Bits.{bits_at}
 use Rattle.bitvec.specs.Size.{ceil_div}
@@ -8,7 +8,6 @@ use Rattle.output.specs.Ascii.{ascii}
 use Rattle.numbers.specs.declared.Letters.TheVariants.{Upper}
 use Rattle.numbers.specs.Digits.{byte_text}
 use Rattle.ordering.specs.Lists.{table}
-use Rattle.ordering.proofs.Flat.{flat_one}
 use Rattle.blocks.specs.Blocks.{Block}
 use Rattle.hex_records.specs.declared.layout.HexPlan.{HexPlan}
 use Rattle.hex_records.specs.Plan.{Chunk, block_bytes, chunk_at, block_plan}

@@ -89,6 +89,7 @@ struct LowBlock {
 
 impl LowBlock {
     // Record `n`.
+    #[tactic(auto, using(bitvec::proofs::Size::ceil_most, bitvec::proofs::Size::ceil_inside))]
     fn record(self, n: usize) -> DataRecord
         requires { n < ceil_div (ceil_div self.block.size 8) 32 }
         ensures { chunk_of result ≡ chunk_at self.unit.bits (block_of self.block) n }

@@ -11,17 +11,6 @@ use Rattle.hex_text.proofs.LowBlock.record.Goals as goal
 within : (size n : ℕ) → n < ceil_div (ceil_div size 8) 32 → (n * 32 < ceil_div size 8) × (ceil_div size 8 ≤ size)
 within size n h = (ceil_inside (ceil_div size 8) 32 n (omega arith) h, ceil_most size 8 (omega arith))
 
-pub overflow_mul-n : goal.overflow_mul-n
-overflow_mul-n c =
-    let size : c.args.self.block.size < 2 ^ 32 = search rules in
-    record { fits = omega (arith, within c.args.self.block.size c.args.n c.requires, size) }
-
-pub plus-from-requires : goal.plus-from-requires
-plus-from-requires c =
-    let size : c.args.self.block.size < 2 ^ 32 = search rules in
-    let offset : c.args.self.block.offset < 2 ^ 32 = search rules in
-    omega (arith, within c.args.self.block.size c.args.n c.requires, size, offset, c.from.ensures)
-
 pub overflow_sub-bytes : goal.overflow_sub-bytes
 overflow_sub-bytes c = omega (arith, within c.args.self.block.size c.args.n c.requires, c.bytes.ensures)
 
