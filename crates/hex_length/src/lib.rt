@@ -37,12 +37,11 @@ pub fn hex_length(sizes: &[u32]) -> usize
 fn block_high(block: Block, unit: AddressUnit) -> bool
     ensures { result ≡ too_high (records_of block unit) }
 {
-    let records = block.records();
-    if records == 0 {
+    let Some(last) = block.records().checked_sub(1) else {
         return false;
-    }
-    let last = BitOffset::from(block.offset).plus(256 * (records - 1));
-    MAX_ADDRESS < last.address(unit.bits).0
+    };
+    let from = BitOffset::from(block.offset).plus(256 * last);
+    MAX_ADDRESS < from.address(unit.bits).0
 }
 
 // Whether no offset and no size is near the highest address, so that no block need be looked at.

@@ -114,7 +114,7 @@ fn put_data(image: Image, from: BitOffset, count: usize, sum: u8, out: &mut [u8]
 
 // The sum, modulo 256, of the three bytes before a record's data that are not always zero.
 #[tactic(auto, unfolding(crate::specs::Text::total))]
-fn head_sum(data_record: DataRecord) -> u8
+pub fn head_sum(data_record: DataRecord) -> u8
     ensures { result ≡ total (data_record.count ∷ data_record.address.0 / 256 ∷ data_record.address.0 % 256 ∷ 0 ∷ []) % 256 }
 {
     let count = data_record.count as u8;

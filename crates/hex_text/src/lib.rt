@@ -17,7 +17,7 @@ ghost use Rattle.hex_text.specs.Single.{Pairs};
 
 use bitvec::{BitOffset, Image, UnitAddress};
 use hex_records::{
-    AddressUnit, Block, DataRecord, HexPlan, LowPlan, PutByte, put_head, put_record,
+    AddressUnit, Block, DataRecord, HexPlan, LowPlan, PutByte, head_sum, put_head, put_record,
 };
 use output::{put, put_all};
 
@@ -34,11 +34,12 @@ fn pair(byte: u8) -> [u8; 2]
     (values + 0x3030 + letters * 7).to_le_bytes()
 }
 
-// The checksum of a record of one byte.
-fn single_check(high: u8, low: u8, byte: u8) -> u8
-    ensures { result ≡ checksum (1 ∷ high ∷ low ∷ 0 ∷ byte ∷ []) }
+// The checksum of a record whose data is this byte.
+#[tactic(auto, unfolding(hex_records::specs::Text::total))]
+fn single_check(data_record: DataRecord, byte: u8) -> u8
+    ensures { result ≡ checksum (data_record.count ∷ data_record.address.0 / 256 ∷ data_record.address.0 % 256 ∷ 0 ∷ byte ∷ []) }
 {
-    let sum = 1u8.wrapping_add(high).wrapping_add(low).wrapping_add(byte);
+    let sum = head_sum(data_record).wrapping_add(byte);
     0u8.wrapping_sub(sum)
 }
 
@@ -64,14 +65,14 @@ impl Digits {
         Digits { pairs }
     }
 
-    // Writes a record of one byte.
+    // Writes a record of one byte, which is at hand: the tests and the loop of `put_record` would
+    // find and read it once more (d).
     #[tactic(auto, using(output::proofs::Writes::writes_length, hex_records::proofs::Text::hex_length), unfolding(numbers::specs::Digits::byte_text))]
     fn put_single(&self, data_record: DataRecord, byte: u8, out: &mut [u8], at: usize) -> usize
         requires { (data_record.count ≡ 1) × (at + 14 ≤ length out.old) }
         ensures { (bytes : List ℕ) (len : ℕ) → byte ≡ bits_at bytes len data_record.from.0 8 → Writes (record_text bytes len (chunk_of data_record)) out.old at out.new result }
     {
-        let [high, low] = data_record.address_bytes();
-        let check = single_check(high, low, byte);
+        let check = single_check(data_record, byte);
         let data = put_head(self, data_record, out, at);
         let sum = self.put_byte(byte, out, data);
         let end = self.put_byte(check, out, sum);

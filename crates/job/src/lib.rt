@@ -15,7 +15,7 @@ use outcome::{Answer, Export};
 use output::put_all;
 
 // The longest job, in bytes: it has no more than 8,192 rows.
-const MAX_BYTES: usize = 65536;
+pub const MAX_BYTES: usize = 65536;
 
 const MAX_ROWS: usize = 8192;
 
@@ -67,7 +67,7 @@ impl<'a> Job<'a> {
         let bytes = job.get(from..from + parts(len, 8))?;
         let rows = job.get(table..table + 8 * count)?;
         Some(Job {
-            image: Image { bytes, len },
+            image: Image::new(bytes, len),
             rows,
             unit,
         })
