@@ -2,24 +2,15 @@
 // output, or `refused N` and a newline.
 #![tactic(auto)]
 
-ghost use Rattle.std.specs.Prelude.{◌≡◌, length};
-
-use job::run_job;
+use job::{MAX_BYTES, run_job};
 use std::io;
 use std::io::{Read, Write};
-
-// Room for what is printed.
-fn out_room() -> [u8; 65536]
-    ensures { length result ≡ 65536 }
-{
-    [0; 65536]
-}
 
 // Of the input a job and one byte more are read, which tells that it is too long.
 fn main(rt: HostRuntime) -> io::Result<()> {
     let mut job = Vec::new(rt.alloc());
-    rt.stdin().take(65537).read_to_end(&mut job)?;
-    let mut out = out_room();
+    rt.stdin().take(MAX_BYTES as u64 + 1).read_to_end(&mut job)?;
+    let mut out = [0; 65536];
     let length = run_job(&job, &mut out);
     rt.stdout().write_all(&out[..length])
 }

@@ -2,13 +2,14 @@
 // does not fit.
 #![tactic(auto)]
 
-ghost use Rattle.std.specs.Prelude.{◌≡◌, true, false, List, ℕ, ◌+◌, ◌*◌, ◌≤◌, ◌<◌, length};
+ghost use Rattle.std.specs.Prelude.{◌≡◌, true, false, List, ℕ, ◌+◌, ◌*◌, ◌≤◌, length, MatchOption};
 ghost use Rattle.bitvec.specs.Size.{ceil_div};
-ghost use Rattle.hex_records.specs.Plan.{block_plan, hex_plan, too_high, blocks_at};
+ghost use Rattle.hex_records.specs.Plan.{hex_plan, too_high, blocks_at};
 ghost use Rattle.hex_records.specs.Text.{hex_text};
+ghost use Rattle.hex_records.specs.Lent.{records_of, plan_of};
 
 use bitvec::{BitOffset, parts};
-use ordering::SpanList;
+use hex_records::{AddressUnit, Block, HexPlan, LowPlan};
 use span_range::joined;
 
 // The highest address that a record can have.
@@ -28,54 +29,46 @@ pub fn hex_length(sizes: &[u32]) -> usize
     requires { length sizes.now ≤ 4096 }
     ensures { (bytes : List ℕ) (len unit : ℕ) (offsets : List ℕ) → length offsets ≡ length sizes.now → length (hex_text bytes len (hex_plan unit (blocks_at offsets sizes.now))) ≡ result }
 {
-    let mut sum: usize = 0;
-    for &size in sizes {
-        sum += block_length(size);
-    }
-    sum + 11
+    let records: usize = sizes.iter().map(|&size| block_length(size)).sum();
+    records + 11
 }
 
 // Whether the address of a record of a block is too high: that of the last one is the highest.
-fn block_high(offset: u32, size: u32, unit: usize) -> bool
-    requires { 0 < unit }
-    ensures { result ≡ too_high (block_plan unit (record { offset = offset; size = size })) }
+fn block_high(block: Block, unit: AddressUnit) -> bool
+    ensures { result ≡ too_high (records_of block unit) }
 {
-    let records = parts(parts(size as usize, 8), 32);
-    if records == 0 {
+    let Some(last) = block.records().checked_sub(1) else {
         return false;
-    }
-    MAX_ADDRESS
-        < BitOffset(offset as usize + 256 * (records - 1))
-            .address(unit)
-            .0
+    };
+    let from = BitOffset::from(block.offset).plus(256 * last);
+    MAX_ADDRESS < from.address(unit.bits).0
 }
 
 // Whether no offset and no size is near the highest address, so that no block need be looked at.
-fn all_low(blocks: SpanList, unit: usize) -> bool
-    requires { 0 < unit }
-    ensures { result ≡ true → too_high (hex_plan unit (blocks_at blocks.entry.offsets.now blocks.entry.sizes.now)) ≡ false }
+fn all_low(plan: HexPlan) -> bool
+    ensures { result ≡ true → too_high (plan_of plan.entry) ≡ false }
 {
-    let most = joined(blocks) as usize;
-    most / unit < 32768
+    let most = joined(plan.blocks) as usize;
+    most / plan.unit.bits < 32768
 }
 
 // Whether the address of a record of a block is too high, found block by block.
-fn any_high(blocks: SpanList, unit: usize) -> bool
-    requires { 0 < unit }
-    ensures { result ≡ too_high (hex_plan unit (blocks_at blocks.entry.offsets.now blocks.entry.sizes.now)) }
+fn any_high(plan: HexPlan) -> bool
+    ensures { result ≡ too_high (plan_of plan.entry) }
 {
-    for (&offset, &size) in blocks.offsets.iter().zip(blocks.sizes) {
-        if block_high(offset, size, unit) {
-            return true;
-        }
-    }
-    false
+    let HexPlan { blocks, unit } = plan;
+    blocks.offsets.iter().zip(blocks.sizes).any(|(&offset, &size)| block_high(
+        Block { offset, size },
+        unit,
+    ))
 }
 
-// Whether the address of a record of the blocks is above 65,535, the cause of refusal 5.
-pub fn too_high(blocks: SpanList, unit: usize) -> bool
-    requires { 0 < unit }
-    ensures { result ≡ too_high (hex_plan unit (blocks_at blocks.entry.offsets.now blocks.entry.sizes.now)) }
+// The plan, where no address of a record is above 65,535, the cause of refusal 5.
+pub fn low<'a>(plan: HexPlan<'a>) -> Option<LowPlan<'a>>
+    ensures { MatchOption result (too_high (plan_of plan.entry) ≡ true) (λ l. l.plan ≡ plan.entry) }
 {
-    !all_low(blocks, unit) && any_high(blocks, unit)
+    if !all_low(plan) && any_high(plan) {
+        return None;
+    }
+    Some(LowPlan { plan })
 }

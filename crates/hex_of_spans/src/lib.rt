@@ -1,13 +1,13 @@
 // The blocks of a slice of span records, and their Intel HEX export (document 01, "Forms to follow"):
-// each function copies the offsets and the sizes of the records, and calls the core on these.
+// each function copies the offsets and the sizes of the records, and calls the core on these. They
+// are two slices, and no list of spans, since the core takes them as the C interface lends them (a).
 #![tactic(auto)]
 
-ghost use Rattle.std.specs.Prelude.{◌≡◌, false, length};
-ghost use Rattle.bitvec.specs.Size.{bad_size};
+ghost use Rattle.std.specs.Prelude.{◌≡◌, length};
 ghost use Rattle.outcome.specs.Outcome.{Exports};
 ghost use Rattle.blocks.specs.Blocks.{blocks_of, blocks_found, Finds};
 ghost use Rattle.intelhex.specs.Hex.{hex_outcome};
-ghost use Rattle.intelhex.specs.TwoImages.{Agree, SameAnswers};
+ghost use Rattle.intelhex.specs.TwoImages.{AgreeOn, SameAnswers, Sized};
 ghost use Rattle.spans.specs.Spans.{offsets_of, sizes_of};
 
 use bitvec::Image;
@@ -51,7 +51,9 @@ pub fn format_both(
     out: &mut [u8],
     out2: &mut [u8],
 ) -> Both
-    ensures { (Exports (hex_outcome first.entry.bytes.now first.entry.len (offsets_of spans.now) (sizes_of spans.now) unit (length out.old)) result.first out.old out.new) × (Exports (hex_outcome second.entry.bytes.now second.entry.len (offsets_of spans.now) (sizes_of spans.now) unit (length out2.old)) result.second out2.old out2.new) × (bad_size first.entry.bytes.now first.entry.len ≡ false → bad_size second.entry.bytes.now second.entry.len ≡ false → length out.old ≡ length out2.old → SameAnswers result.first result.second out.new out2.new (Agree (blocks_of (offsets_of spans.now) (sizes_of spans.now)) first.entry.bytes.now first.entry.len second.entry.bytes.now second.entry.len)) }
+    ensures first { Exports (hex_outcome first.entry.bytes.now first.entry.len (offsets_of spans.now) (sizes_of spans.now) unit (length out.old)) result.first out.old out.new }
+    ensures second { Exports (hex_outcome second.entry.bytes.now second.entry.len (offsets_of spans.now) (sizes_of spans.now) unit (length out2.old)) result.second out2.old out2.new }
+    ensures rule { Sized first.entry → Sized second.entry → length out.old ≡ length out2.old → SameAnswers result.first result.second out.new out2.new (AgreeOn (blocks_of (offsets_of spans.now) (sizes_of spans.now)) first.entry second.entry) }
 {
     let columns = Columns::copy(spans);
     intelhex::format_both(

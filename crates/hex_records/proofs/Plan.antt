@@ -1,14 +1,18 @@
 -- Laws of plans: what holds of each of their records, and their texts as pieces.
 -- Assumes nothing.
-use Rattle.std.proofs.Common.{◌≡◌, ℕ, ◌<◌, ◌≤◌, List, [], ◌∷◌, map, length, get_or, ap, ◌∙◌, arith}
+use Rattle.std.proofs.Common.{◌≡◌, ℕ, ◌<◌, ◌≤◌, List, [], ◌∷◌, map, length, get_or, refl, sym, ap, ◌∙◌, arith}
+use mathlib.Core.Bool.{Bool, true, false, ◌||◌, false≢true}
 use mathlib.Core.List.{flat_map}
+use Rattle.std.specs.List.{zip}
+use lib.Dec.{ltb}
+use borrow.Author.Tests.{le-ltb, ltb-false}
 use lib.ListN.{get_or-map}
 use Rattle.bitvec.specs.Size.{ceil_div}
 use Rattle.output.specs.Pieces.{pieces}
 use Rattle.ordering.specs.Lists.{table, Each}
 use Rattle.ordering.proofs.Lists.{each_parts, each_append, each_table, table_each, table_equal, table_list, map_length}
 use Rattle.blocks.specs.Blocks.{Block}
-use Rattle.hex_records.specs.Plan.{Chunk, block_bytes, chunk_at, block_plan, hex_plan, blocks_at}
+use Rattle.hex_records.specs.Plan.{Chunk, block_bytes, chunk_at, block_plan, hex_plan, too_high, blocks_at}
 use Rattle.hex_records.specs.Text.{record_text}
 use Rattle.ordering.proofs.Flat.{flat_table, flat_flat}
 
@@ -66,6 +70,25 @@ blocks_back blocks =
     (λ k h. rw (get_or-map (λ b. b.offset) blocks k none, get_or-map (λ b. b.size) blocks k none))
     ∙ table_list blocks none
 
+-- The blocks of two lists of one length, as those of their pairs.
+abbrev pub paired : ℕ × ℕ → Block
+paired p = record { offset = p.0; size = p.1 }
+
+pub blocks_zip : (offsets sizes : List ℕ) → length sizes ≡ length offsets → blocks_at offsets sizes ≡ map paired (zip offsets sizes)
+blocks_zip offsets sizes e =
+    rw (firsts offsets sizes e, seconds offsets sizes e) at (blocks_back (map paired (zip offsets sizes)))
+  where
+    firsts : (xs ys : List ℕ) → length ys ≡ length xs → map (λ b. b.offset) (map paired (zip xs ys)) ≡ xs
+    firsts [] ys e = refl
+    firsts (x ∷ xs) [] e = absurd (omega (arith, e))
+    firsts (x ∷ xs) (y ∷ ys) e = ap (λ (l : List ℕ). x ∷ l) (firsts xs ys (omega (arith, e)))
+
+    seconds : (xs ys : List ℕ) → length ys ≡ length xs → map (λ b. b.size) (map paired (zip xs ys)) ≡ ys
+    seconds [] [] e = refl
+    seconds [] (y ∷ ys) e = absurd (omega (arith, e))
+    seconds (x ∷ xs) [] e = absurd (omega (arith, e))
+    seconds (x ∷ xs) (y ∷ ys) e = ap (λ (l : List ℕ). y ∷ l) (seconds xs ys (omega (arith, e)))
+
 -- A record has at most 32 bytes.
 pub plan_counts : (unit : ℕ) (blocks : List Block) → Each (λ c. c.count ≤ 32) (hex_plan unit blocks)
 unfolding hex_plan block_plan chunk_at
@@ -74,3 +97,23 @@ plan_counts unit blocks = flat_each (λ c. c.count ≤ 32) (block_plan unit) blo
     each_all : (blocks : List Block) → Each (λ b. Each (λ c. c.count ≤ 32) (block_plan unit b)) blocks
     each_all [] = tt
     each_all (b ∷ rest) = (each_table (λ c. c.count ≤ 32) (chunk_at unit b) (ceil_div (block_bytes b) 32) (λ k h. omega arith), each_all rest)
+
+-- The address fits.
+abbrev pub Low : Chunk → Type 0
+Low c = c.address ≤ 65535
+
+-- A plan is not too high exactly when each address fits.
+pub low_each : (plan : List Chunk) → too_high plan ≡ false → Each Low plan
+unfolding too_high
+low_each [] e = tt
+low_each (c ∷ plan) e = go (ltb 65535 c.address) (too_high plan) refl refl e (low_each plan)
+  where
+    go : (a b : Bool) → ltb 65535 c.address ≡ a → too_high plan ≡ b → (a || b) ≡ false → (too_high plan ≡ false → Each Low plan) → Low c × Each Low plan
+    go true b p q e f = absurd (false≢true (sym e))
+    go false true p q e f = absurd (false≢true (sym e))
+    go false false p q e f = (ltb-false _ _ p, f q)
+
+pub each_low : (plan : List Chunk) → Each Low plan → too_high plan ≡ false
+unfolding too_high
+each_low [] e = refl
+each_low (c ∷ plan) e = simp (le-ltb 65535 c.address e.0, each_low plan e.1)

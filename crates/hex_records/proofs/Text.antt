@@ -1,10 +1,9 @@
 -- Laws of the text of records: bytes as digits, the checksum, and lengths.
 -- Assumes nothing.
-use Rattle.std.proofs.Common.{◌≡◌, ℕ, ◌+◌, ◌*◌, ◌/◌, ◌%◌, ◌<◌, ◌≤◌, List, [], ◌∷◌, ◌++◌, length, get_or, refl, ap, ◌∙◌, append_assoc, arith, length-append}
+use Rattle.std.proofs.Common.{◌≡◌, ℕ, ◌+◌, ◌*◌, ◌/◌, ◌%◌, ◌<◌, List, [], ◌∷◌, ◌++◌, length, refl, ap, ◌∙◌, append_assoc, arith, length-append}
 use mathlib.Core.List.{flat_map}
 use Rattle.bitvec.specs.Bits.{bits_at}
 use Rattle.bitvec.proofs.Bits.{bits_small}
-use Rattle.bitvec.proofs.Words.{byte_whole}
 use Rattle.output.specs.Ascii.{ascii}
 use Rattle.numbers.specs.declared.Letters.TheVariants.{Upper}
 use Rattle.numbers.specs.Digits.{byte_text}
@@ -18,13 +17,6 @@ use Rattle.hex_records.proofs.Sums.{total_append}
 pub bytes_next : (bytes : List ℕ) (len from k : ℕ) → bytes_from bytes len from (k + 1) ≡ bytes_from bytes len from k ++ (bits_at bytes len (from + 8 * k) 8 ∷ [])
 unfolding bytes_from
 bytes_next bytes len from k = table_next _ k
-
--- A byte that is a whole one of the image.
-pub whole_byte : (bytes : List ℕ) (len first k : ℕ) → (first + k) * 8 + 8 ≤ len → get_or bytes (first + k) 0 < 256
-    → bits_at bytes len (first * 8 + 8 * k) 8 ≡ get_or bytes (first + k) 0
-whole_byte bytes len first k h l =
-    let place : first * 8 + 8 * k ≡ (first + k) * 8 = omega arith in
-    rw place (byte_whole bytes len (first + k) h l)
 
 pub bytes_none : (bytes : List ℕ) (len from : ℕ) → bytes_from bytes len from 0 ≡ []
 unfolding bytes_from table

@@ -2,19 +2,44 @@
 // into records.
 #![tactic(auto)]
 
-ghost use Rattle.std.specs.Prelude.{◌≡◌, ℕ, ◌+◌, ◌*◌, ◌/◌, ◌%◌, ◌^◌, ◌<◌, ◌≤◌, true, [], ◌∷◌, ◌++◌, length};
+ghost use Rattle.std.specs.Prelude.{◌≡◌, ℕ, ◌+◌, ◌*◌, ◌/◌, ◌%◌, ◌^◌, ◌<◌, ◌≤◌, true, [], ◌∷◌, ◌++◌, length, IfSome};
 ghost use Rattle.std.proofs.lemmas.List.Edits.{sets};
+ghost use Rattle.numbers.specs.declared.Letters.TheVariants.{Upper};
+ghost use Rattle.numbers.specs.Digits.{byte_text};
 ghost use Rattle.bitvec.specs.Bits.{bits_at};
 ghost use Rattle.output.specs.Ascii.{ascii};
 ghost use Rattle.output.specs.Writes.{Writes};
 ghost use Rattle.hex_records.specs.Text.{bytes_from, total, hex_bytes, record_text};
+ghost use Rattle.hex_records.specs.Lent.{chunk_of};
 
-use bitvec::{BitOffset, Image, UnitAddress};
+use bitvec::{BitOffset, Image, WholeBytes};
 use numbers::{Letters, put_byte};
 use output::put;
 
+mod layout;
+mod low;
+
+pub use layout::{AddressUnit, Block, DataRecord, HexPlan};
+pub use low::LowPlan;
+
+// How both digits of a byte are written.
+pub trait PutByte {
+    fn put_byte(&self, byte: u8, out: &mut [u8], at: usize) -> usize
+        requires { at + 2 ≤ length out.old }
+        ensures { Writes (byte_text Upper byte) out.old at out.new result };
+}
+
+// By arithmetic.
+struct Computed;
+
+impl PutByte for Computed {
+    fn put_byte(&self, byte: u8, out: &mut [u8], at: usize) -> usize {
+        put_byte(out, at, Letters::Upper, byte)
+    }
+}
+
 // Writes `count` bytes of the image from `from` on, and adds them to `sum`, modulo 256. `byte_at` reads
-// them: byte 0 is the one at `from`.
+// them: byte 0 is the one at `from`. The loop counts, since `byte_at` is asked by number (d).
 fn put_bytes<F: Fn(usize) -> u8>(
     image: Image,
     from: BitOffset,
@@ -40,28 +65,33 @@ fn put_bytes<F: Fn(usize) -> u8>(
     added
 }
 
-// Whether `count` bytes from `from` on are whole bytes of the image.
-fn all_whole(image: Image, from: BitOffset, count: usize) -> bool
+// The `count` bytes from `from` on, where they are whole bytes of the image.
+fn whole_bytes<'a>(image: Image<'a>, from: BitOffset, count: usize) -> Option<WholeBytes<'a>>
     requires { from.0 + 8 * count + 8 < 2 ^ 64 }
-    ensures { result ≡ true → (from.0 / 8 * 8 ≡ from.0) × ((from.0 / 8 + count) * 8 ≤ image.entry.len) × (from.0 / 8 + count ≤ length image.entry.bytes.now) }
+    ensures { IfSome result (λ w. (w.image ≡ image.entry) × (w.first * 8 ≡ from.0) × (w.count ≡ count)) }
 {
-    from.0 % 8 == 0 && from.0 / 8 + count <= image.whole_bytes()
+    let first = from.byte();
+    if from.shift() != 0 || image.whole_bytes() < first + count {
+        return None;
+    }
+    Some(WholeBytes {
+        image,
+        first,
+        count,
+    })
 }
 
-// Whether `count` bytes from `from` on and the byte of the image behind them are in the image.
-fn all_inside(image: Image, from: BitOffset, count: usize) -> bool
+// The byte of the image that holds bit `from`, where `count` bytes from there on and the byte behind
+// them are in the image.
+fn first_byte(image: Image, from: BitOffset, count: usize) -> Option<usize>
     requires { from.0 + 8 * count + 8 < 2 ^ 64 }
-    ensures { result ≡ true → ((from.0 / 8 + count) * 8 + from.0 % 8 ≤ image.entry.len) × (from.0 / 8 + count < length image.entry.bytes.now) }
+    ensures { IfSome result (λ first. (first ≡ from.0 / 8) × ((first + count) * 8 + from.0 % 8 ≤ image.entry.len) × (first + count < length image.entry.bytes.now)) }
 {
-    from.0 + 8 * count <= image.len && from.0 / 8 + count < image.bytes.len()
-}
-
-// Byte `at`, where it is a whole one of the image.
-fn read_whole(image: Image, at: usize) -> u8
-    requires { (at * 8 + 8 ≤ image.len) × (at < length image.bytes.now) }
-    ensures { result ≡ bits_at image.entry.bytes.now image.entry.len (at * 8) 8 }
-{
-    image.bytes[at]
+    let first = from.byte();
+    if image.len < from.0 + 8 * count || image.bytes.len() <= first + count {
+        return None;
+    }
+    Some(first)
 }
 
 // Writes `count` bytes of the image from `from` on, and adds them to `sum`, modulo 256.
@@ -70,61 +100,52 @@ fn put_data(image: Image, from: BitOffset, count: usize, sum: u8, out: &mut [u8]
     ensures sum { result ≡ (sum + total (bytes_from image.entry.bytes.now image.entry.len from.0 count)) % 256 }
     ensures stored { out.new ≡ sets out.old at (hex_bytes (bytes_from image.entry.bytes.now image.entry.len from.0 count)) }
 {
-    let start = from.0;
-    let first = start / 8;
-    if all_whole(image, from, count) {
-        let whole = |k: usize| read_whole(image, first + k);
+    if let Some(bytes) = whole_bytes(image, from, count) {
+        let whole = |k: usize| bytes.byte(k);
         return put_bytes(image, from, count, whole, sum, out, at);
     }
-    if all_inside(image, from, count) {
-        let across = |k: usize| image.read_across(first + k, start % 8, 8);
+    if let Some(first) = first_byte(image, from, count) {
+        let across = |k: usize| image.read_across(first + k, from.shift(), 8);
         return put_bytes(image, from, count, across, sum, out, at);
     }
-    let any = |k: usize| image.read_byte(BitOffset(start + 8 * k));
+    let any = |k: usize| image.read_byte(from.plus(8 * k));
     put_bytes(image, from, count, any, sum, out, at)
 }
 
 // The sum, modulo 256, of the three bytes before a record's data that are not always zero.
 #[tactic(auto, unfolding(crate::specs::Text::total))]
-fn head_sum(count: u8, high: u8, low: u8) -> u8
-    ensures { result ≡ total (count ∷ high ∷ low ∷ 0 ∷ []) % 256 }
+pub fn head_sum(data_record: DataRecord) -> u8
+    ensures { result ≡ total (data_record.count ∷ data_record.address.0 / 256 ∷ data_record.address.0 % 256 ∷ 0 ∷ []) % 256 }
 {
+    let count = data_record.count as u8;
+    let [high, low] = data_record.address_bytes();
     count.wrapping_add(high).wrapping_add(low)
 }
 
 // Writes what stands before a record's data: the colon, the number of data bytes, the address and
-// the type.
+// the type. The bytes of the address are written by `digits`.
 #[tactic(auto, using(output::proofs::Writes::writes_length), unfolding(numbers::specs::Digits::byte_text))]
-fn put_head(count: u8, high: u8, low: u8, out: &mut [u8], at: usize) -> usize
+pub fn put_head<D: PutByte>(digits: &D, data_record: DataRecord, out: &mut [u8], at: usize) -> usize
     requires { at + 9 ≤ length out.old }
-    ensures { Writes (ascii ":" ++ hex_bytes (count ∷ high ∷ low ∷ 0 ∷ [])) out.old at out.new result }
+    ensures { Writes (ascii ":" ++ hex_bytes (data_record.count ∷ data_record.address.0 / 256 ∷ data_record.address.0 % 256 ∷ 0 ∷ [])) out.old at out.new result }
 {
+    let [high, low] = data_record.address_bytes();
     let mark = put(out, at, b':');
-    let length = put_byte(out, mark, Letters::Upper, count);
-    let first = put_byte(out, length, Letters::Upper, high);
-    let second = put_byte(out, first, Letters::Upper, low);
+    let length = put_byte(out, mark, Letters::Upper, data_record.count as u8);
+    let first = digits.put_byte(high, out, length);
+    let second = digits.put_byte(low, out, first);
     put_byte(out, second, Letters::Upper, 0)
 }
 
-// Writes one record: its bytes are the `count` bytes of the image from `from` on.
+// Writes one record.
 #[tactic(auto, using(output::proofs::Writes::writes_length, crate::proofs::Text::hex_length), unfolding(numbers::specs::Digits::byte_text))]
-pub fn put_record(
-    image: Image,
-    from: BitOffset,
-    address: UnitAddress,
-    count: usize,
-    out: &mut [u8],
-    at: usize,
-) -> usize
-    requires small { (count ≤ 255) × (address.0 ≤ 65535) × (from.0 + 8 * count + 8 < 2 ^ 64) }
-    requires room { at + (12 + 2 * count) ≤ length out.old }
-    ensures { Writes (record_text image.entry.bytes.now image.entry.len (record { address = address.0; from = from.0; count = count })) out.old at out.new result }
+pub fn put_record(image: Image, data_record: DataRecord, out: &mut [u8], at: usize) -> usize
+    requires { at + (12 + 2 * data_record.count) ≤ length out.old }
+    ensures { Writes (record_text image.entry.bytes.now image.entry.len (chunk_of data_record)) out.old at out.new result }
 {
-    let n = count as u8;
-    let high = (address.0 / 256) as u8;
-    let low = (address.0 % 256) as u8;
-    let data = put_head(n, high, low, out, at);
-    let sum = put_data(image, from, count, head_sum(n, high, low), out, data);
+    let DataRecord { from, count, .. } = data_record;
+    let data = put_head(&Computed, data_record, out, at);
+    let sum = put_data(image, from, count, head_sum(data_record), out, data);
     let check = 0u8.wrapping_sub(sum);
     let end = put_byte(out, data + 2 * count, Letters::Upper, check);
     put(out, end, b'\n')

@@ -1,6 +1,6 @@
 -- Laws of blocks of one byte: their plan is one record, and its text.
 -- Assumes nothing.
-use Rattle.std.proofs.Common.{◌≡◌, ℕ, ◌+◌, ◌*◌, ◌/◌, ◌%◌, ◌<◌, ◌≤◌, List, [], ◌∷◌, ◌++◌, ◌∙◌, arith, length, get_or, set, get_or-set_other, get_or-set_same, length-set, below_more}
+use Rattle.std.proofs.Common.{◌≡◌, ℕ, ◌+◌, ◌*◌, ◌/◌, ◌%◌, ◌<◌, ◌≤◌, List, [], ◌∷◌, ◌++◌, ◌∙◌, arith, get_or}
 use mathlib.Core.List.{flat_map}
 use Rattle.bitvec.specs.Bits.{bits_at}
 use Rattle.bitvec.specs.Size.{ceil_div}
@@ -8,8 +8,8 @@ use Rattle.output.specs.Ascii.{ascii}
 use Rattle.numbers.specs.declared.Letters.TheVariants.{Upper}
 use Rattle.numbers.specs.Digits.{byte_text}
 use Rattle.ordering.specs.Lists.{table}
-use Rattle.ordering.proofs.Flat.{flat_one}
 use Rattle.blocks.specs.Blocks.{Block}
+use Rattle.hex_records.specs.declared.layout.HexPlan.{HexPlan}
 use Rattle.hex_records.specs.Plan.{Chunk, block_bytes, chunk_at, block_plan}
 use Rattle.hex_records.specs.Text.{bytes_from, checksum, record_bytes, hex_bytes, record_text}
 use Rattle.hex_records.proofs.Plan.{block_at}
@@ -39,11 +39,6 @@ block_single unit b p q =
     let e = one_byte b p q in
     one_chunk unit b e ∙ rw (first_chunk unit b e)
 
--- The text of its records is that of the one.
-pub text_single : (bytes : List ℕ) (len unit : ℕ) (b : Block) → 0 < b.size → b.size ≤ 8
-    → flat_map (record_text bytes len) (block_plan unit b) ≡ record_text bytes len (single unit b)
-text_single bytes len unit b p q = rw (block_single unit b p q) (flat_one (record_text bytes len) (single unit b))
-
 one_data : (bytes : List ℕ) (len from : ℕ) → bytes_from bytes len from 1 ≡ bits_at bytes len from 8 ∷ []
 one_data bytes len from =
     let here : from + 8 * 0 ≡ from = omega arith in
@@ -60,20 +55,10 @@ single_parts bytes len address from =
     record_parts bytes len (record { address = address; from = from; count = 1 })
     ∙ rw (one_data bytes len from, hex_one (bits_at bytes len from 8))
 
--- The text of block k of two lists.
-abbrev pub texts : List ℕ → ℕ → ℕ → List ℕ → List ℕ → ℕ → List ℕ
-texts bytes len unit offsets sizes k = flat_map (record_text bytes len) (block_plan unit (block_at offsets sizes k))
+-- The text of block k of a plan.
+abbrev pub texts : List ℕ → ℕ → HexPlan → ℕ → List ℕ
+texts bytes len p k = flat_map (record_text bytes len) (block_plan p.unit.bits (block_at p.blocks.offsets.now p.blocks.sizes.now k))
 
 -- The digits of byte b are stored.
-abbrev pub Stored : List ℕ → ℕ → Type 0
-Stored pairs b = get_or pairs b 0 % 256 ∷ get_or pairs b 0 / 256 ∷ [] ≡ byte_text Upper b
-
--- One more store.
-pub stored_more : (pairs : List ℕ) (k x : ℕ) → length pairs ≡ 256 → k < 256 → ((b : ℕ) → b < k → Stored pairs b) → x % 256 ∷ x / 256 ∷ [] ≡ byte_text Upper k
-    → (length (set pairs k x) ≡ 256) × ((b : ℕ) → b < k + 1 → Stored (set pairs k x) b)
-stored_more pairs k x n h stored here = (
-  length-set pairs k x ∙ n,
-  below_more (Stored (set pairs k x)) k
-      (λ b l. rw (get_or-set_other pairs k b x 0 (omega (arith, l))) (stored b l))
-      (rw (get_or-set_same pairs k x 0 (omega (arith, h, n))) here),
-)
+abbrev pub Stored : List (List ℕ) → ℕ → Type 0
+Stored pairs b = get_or pairs b [] ≡ byte_text Upper b

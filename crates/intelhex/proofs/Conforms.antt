@@ -20,8 +20,7 @@ use Rattle.hex_records.specs.Text.{hex_text}
 use Rattle.hex_records.specs.Intel.{records}
 use Rattle.hex_records.specs.Decoded.{data_record, end_record}
 use Rattle.hex_records.proofs.Decoded.{decodes}
-use Rattle.hex_records.proofs.Plan.{plan_counts}
-use Rattle.hex_length.proofs.High.{Low, low_each}
+use Rattle.hex_records.proofs.Plan.{Low, low_each, plan_counts}
 use Rattle.intelhex.specs.Hex.{plan_outcome, hex_outcome}
 
 -- A text is no refusal, and is that of its outcome.

@@ -21,8 +21,7 @@ use Rattle.blocks.specs.Blocks.{blocks_of}
 use Rattle.hex_records.specs.Plan.{Chunk, hex_plan, too_high}
 use Rattle.hex_records.specs.Text.{hex_text}
 use Rattle.hex_records.proofs.Decoded.{Same as SameBytes, same_data, equal_text, hex_lengths}
-use Rattle.hex_records.proofs.Plan.{plan_counts}
-use Rattle.hex_length.proofs.High.{Low, low_each}
+use Rattle.hex_records.proofs.Plan.{Low, low_each, plan_counts}
 use Rattle.intelhex.specs.Hex.{plan_outcome, hex_outcome}
 use Rattle.intelhex.specs.TwoImages.{Agree, Same, SameAnswered, SameAnswers, refused_alike, texts, refused_both, texts_both, both_refused, both_texts}
 use Rattle.intelhex.proofs.Cover.{plan_covers}

@@ -1,7 +1,8 @@
 -- What demand 3 compares: the exports of two images, and the bits of the blocks (document 01, "What demand 3 compares").
-use Rattle.std.specs.Prelude.{◌≡◌, ◌↔◌, ◌≢◌, List, ℕ, ◌+◌, ◌*◌, ◌<◌, length, take, Result}
+use Rattle.std.specs.Prelude.{◌≡◌, ◌↔◌, ◌≢◌, false, List, ℕ, ◌+◌, ◌*◌, ◌<◌, length, take, Result}
 use Rattle.bitvec.specs.Bits.{bit_at}
-use Rattle.bitvec.specs.Size.{ceil_div}
+use Rattle.bitvec.specs.Size.{bad_size, ceil_div}
+use Rattle.bitvec.specs.declared.Image.{Image}
 use Rattle.outcome.specs.declared.Refusal.{Refusal}
 use Rattle.outcome.specs.Outcome.{Outcome, Answer, text, refused, answer_of}
 use Rattle.ordering.specs.Lists.{Each}
@@ -12,6 +13,13 @@ use Rattle.blocks.specs.Blocks.{Block}
 unfoldable pub Agree : List Block → List ℕ → ℕ → List ℕ → ℕ → Type 0
 Agree blocks b₁ n₁ b₂ n₂ =
     Each (λ b. (i : ℕ) → i < 8 * ceil_div b.size 8 → bit_at b₁ n₁ (b.offset + i) ≡ bit_at b₂ n₂ (b.offset + i)) blocks
+
+-- The same of images as they are lent, and that one passes the size check.
+abbrev pub AgreeOn : List Block → Image → Image → Type 0
+AgreeOn blocks a b = Agree blocks a.bytes.now a.len b.bytes.now b.len
+
+abbrev pub Sized : Image → Type 0
+Sized a = bad_size a.bytes.now a.len ≡ false
 
 -- Two outcomes: both the same refusal, or two texts of one length that are equal exactly when A holds.
 pub data Same (o₁ o₂ : Outcome) (A : Type 0) : Type 0 where

@@ -1,10 +1,9 @@
 // Two images exported with the same spans, unit and room length: demand 3 as one contract.
-ghost use Rattle.std.specs.Prelude.{◌≡◌, false, length};
-ghost use Rattle.bitvec.specs.Size.{bad_size};
+ghost use Rattle.std.specs.Prelude.{◌≡◌, length};
 ghost use Rattle.outcome.specs.Outcome.{Exports};
 ghost use Rattle.blocks.specs.Blocks.{blocks_of};
 ghost use Rattle.intelhex.specs.Hex.{hex_outcome};
-ghost use Rattle.intelhex.specs.TwoImages.{Agree, SameAnswers};
+ghost use Rattle.intelhex.specs.TwoImages.{AgreeOn, SameAnswers, Sized};
 
 use crate::hex::format_intelhex;
 use bitvec::Image;
@@ -31,7 +30,7 @@ pub fn format_both(
 ) -> Both
     ensures first { Exports (hex_outcome first.entry.bytes.now first.entry.len offsets.now sizes.now unit (length out.old)) result.first out.old out.new }
     ensures second { Exports (hex_outcome second.entry.bytes.now second.entry.len offsets.now sizes.now unit (length out2.old)) result.second out2.old out2.new }
-    ensures rule { bad_size first.entry.bytes.now first.entry.len ≡ false → bad_size second.entry.bytes.now second.entry.len ≡ false → length out.old ≡ length out2.old → SameAnswers result.first result.second out.new out2.new (Agree (blocks_of offsets.now sizes.now) first.entry.bytes.now first.entry.len second.entry.bytes.now second.entry.len) }
+    ensures rule { Sized first.entry → Sized second.entry → length out.old ≡ length out2.old → SameAnswers result.first result.second out.new out2.new (AgreeOn (blocks_of offsets.now sizes.now) first.entry second.entry) }
 {
     let one = format_intelhex(first, offsets, sizes, unit, out);
     let two = format_intelhex(second, offsets, sizes, unit, out2);

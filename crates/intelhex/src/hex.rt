@@ -1,31 +1,32 @@
 // `format_intelhex`: the blocks of the lent spans, and then their text.
-ghost use Rattle.std.specs.Prelude.{◌≡◌, false, ◌≤◌, ◌<◌, length};
+ghost use Rattle.std.specs.Prelude.{◌≡◌, false, ◌≤◌, length};
 ghost use Rattle.outcome.specs.Outcome.{refused, Exports};
 ghost use Rattle.span_range.specs.Range.{long_list, spans_checked};
 ghost use Rattle.blocks.specs.Blocks.{blocks_of};
-ghost use Rattle.hex_records.specs.Plan.{hex_plan, blocks_at};
+ghost use Rattle.hex_records.specs.Plan.{hex_plan};
+ghost use Rattle.hex_records.specs.Lent.{plan_of};
 ghost use Rattle.intelhex.specs.Hex.{plan_outcome, hex_outcome};
 
 use bitvec::Image;
 use blocks::get_blocks;
-use hex_length::{hex_length, too_high};
+use hex_length::{hex_length, low};
+use hex_records::{AddressUnit, HexPlan};
 use hex_text::write_hex;
 use ordering::SpanList;
 use outcome::{Export, Refusal};
 
-// The text of the blocks that are lent, or refusal 5 or 8.
-fn format_blocks(image: Image, blocks: SpanList, address_unit: usize, out: &mut [u8]) -> Export
-    requires { (0 < address_unit) × (length blocks.offsets.now ≤ 4096) }
-    ensures { Exports (plan_outcome image.entry.bytes.now image.entry.len (hex_plan address_unit (blocks_at blocks.entry.offsets.now blocks.entry.sizes.now)) (length out.old)) result out.old out.new }
+// The text of a plan, or refusal 5 or 8.
+#[tactic(auto, unfolding(crate::specs::Hex::plan_outcome))]
+fn format_plan(image: Image, plan: HexPlan, out: &mut [u8]) -> Export
+    requires { length plan.blocks.offsets.now ≤ 4096 }
+    ensures { Exports (plan_outcome image.entry.bytes.now image.entry.len (plan_of plan.entry) (length out.old)) result out.old out.new }
 {
-    if too_high(blocks, address_unit) {
-        return Err(Refusal::AddressRange);
-    }
-    let needed = hex_length(blocks.sizes);
+    let low_plan = low(plan).ok_or(Refusal::AddressRange)?;
+    let needed = hex_length(plan.blocks.sizes);
     if out.len() < needed {
         return Err(Refusal::NoRoom(needed));
     }
-    Ok(write_hex(image, blocks, address_unit, out))
+    Ok(write_hex(image, low_plan, out))
 }
 
 // The text of the blocks that the spans make, or refusal 3, 5 or 8. The blocks are made in two arrays
@@ -35,13 +36,12 @@ fn format_spans<const N: usize>(
     image: Image,
     offsets: &[u32],
     sizes: &[u32],
-    address_unit: usize,
+    unit: AddressUnit,
     out: &mut [u8],
 ) -> Export
-    requires unit { 0 < address_unit }
     requires places { N ≤ 4096 }
     requires room { long_list offsets.now sizes.now ≡ false → length offsets.now ≤ N }
-    ensures { Exports (spans_checked refused offsets.now sizes.now (plan_outcome image.entry.bytes.now image.entry.len (hex_plan address_unit (blocks_of offsets.now sizes.now)) (length out.old))) result out.old out.new }
+    ensures { Exports (spans_checked refused offsets.now sizes.now (plan_outcome image.entry.bytes.now image.entry.len (hex_plan unit.bits (blocks_of offsets.now sizes.now)) (length out.old))) result out.old out.new }
 {
     let mut block_offsets = [0u32; N];
     let mut block_sizes = [0u32; N];
@@ -50,11 +50,12 @@ fn format_spans<const N: usize>(
         offsets: &block_offsets[..count],
         sizes: &block_sizes[..count],
     };
-    format_blocks(image, blocks, address_unit, out)
+    format_plan(image, HexPlan { blocks, unit }, out)
 }
 
 // Intel HEX records of the blocks that the spans make, and the end record. A span is an offset, with
-// 4294967295 for an absent one, and a size, in two slices of one length.
+// 4294967295 for an absent one, and a size, in two slices of one length. They are two slices here, and
+// no list, since the C interface lends them so (a): that they have one length is still to be seen.
 #[tactic(auto, using(outcome::proofs::Outcome::inside, span_range::proofs::Good::short_list), unfolding(crate::specs::Hex::hex_outcome))]
 pub fn format_intelhex(
     image: Image,
@@ -65,14 +66,10 @@ pub fn format_intelhex(
 ) -> Export
     ensures { Exports (hex_outcome image.entry.bytes.now image.entry.len offsets.now sizes.now address_unit (length out.old)) result out.old out.new }
 {
-    if image.bad_size() {
-        return Err(Refusal::ImageSize);
-    }
-    if outcome::outside(1, 64, address_unit) {
-        return Err(Refusal::OptionRange);
-    }
+    let image = image.good().ok_or(Refusal::ImageSize)?.image;
+    let unit = AddressUnit::new(address_unit).ok_or(Refusal::OptionRange)?;
     if offsets.len() <= 64 {
-        return format_spans::<64>(image, offsets, sizes, address_unit, out);
+        return format_spans::<64>(image, offsets, sizes, unit, out);
     }
-    format_spans::<4096>(image, offsets, sizes, address_unit, out)
+    format_spans::<4096>(image, offsets, sizes, unit, out)
 }

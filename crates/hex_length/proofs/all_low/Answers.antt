@@ -6,5 +6,5 @@ use Rattle.hex_length.proofs.all_low.Goals as goal
 
 pub returns : goal.returns
 returns c e =
-    let a = c.args in
-    blocks_small a.unit a.blocks.offsets.now a.blocks.sizes.now c.joined-most.result c.requires c.joined-most.ensures (ltb-true _ _ e)
+    let p = c.args.plan in
+    blocks_small p.unit.bits p.blocks.offsets.now p.blocks.sizes.now c.joined-most.result p.unit.positive c.joined-most.ensures (ltb-true _ _ e)

@@ -8,4 +8,5 @@ pub returns : goal.returns
 returns c =
     let of = c.copy-columns.ensures in
     let both = rw (c.offsets.ensures, c.sizes.ensures, offsets_front of, sizes_front of) at c.format_both.ensures in
-    both_few _ _ _ _ c.args.spans.now _ _ _ _ _ _ (both.first, both.second)
+    let few = both_few _ _ _ _ c.args.spans.now _ _ _ _ _ _ (both.first, both.second) in
+    record { first = few.0; second = few.1; rule = few.2 }

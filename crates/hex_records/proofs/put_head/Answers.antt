@@ -8,8 +8,9 @@ use Rattle.hex_records.proofs.put_head.Goals as goal
 
 pub returns : goal.returns
 unfolding byte_text flat_map hex_bytes
-returns c =
-    writes_then c.put-mark.ensures
+returns g c =
+    rw c.address_bytes.ensures at
+    (writes_then c.put-mark.ensures
     (writes_then c.put_byte-length.ensures
     (writes_then c.put_byte-first.ensures
-    (writes_then c.put_byte-second.ensures c.put_byte.ensures)))
+    (writes_then c.put_byte-second.ensures c.put_byte.ensures))))

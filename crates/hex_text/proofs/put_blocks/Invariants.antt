@@ -5,4 +5,4 @@ use Rattle.hex_text.proofs.Single.{texts}
 use Rattle.hex_text.proofs.put_blocks.Given as goal
 
 abbrev pub invariant-loop-offset : goal.invariant-loop-offset
-invariant-loop-offset l = Writes (pieces (texts l.image.bytes.now l.image.len l.unit l.fn.blocks.offsets.now l.fn.blocks.sizes.now) (length l.yielded)) l.initial.out 0 l.out l.next
+invariant-loop-offset l = Writes (pieces (texts l.image.bytes.now l.image.len l.fn.plan.plan) (length l.yielded)) l.initial.out 0 l.out l.next

@@ -18,7 +18,7 @@ pub loop-k-preserved : goal.loop-k-preserved
 loop-k-preserved c =
     let l = c.loop-k in
     let a = c.args in
-    let f : ℕ → ℕ = λ k. word a.job.now (a.at + 8 * k) in (
+    let f : ℕ → ℕ = λ k. word a.rows.now (a.at + 8 * k) in (
       search rules,
       rw (l.invariant.1, c.read_word.ensures, table_next f l.k) (sets_more a.to.now (table f l.k) l.k (f l.k) (sym (table_length f l.k))),
       search rules,
@@ -29,6 +29,6 @@ unfolding column
 returns c =
     let l = c.loop-k in
     let a = c.args in
-    let f : ℕ → ℕ = λ k. word a.job.now (a.at + 8 * k) in
+    let f : ℕ → ℕ = λ k. word a.rows.now (a.at + 8 * k) in
     let done : l.k ≡ length a.to.now = omega arith in
     l.invariant.1 ∙ rw done (sets_whole a.to.now (table f (length a.to.now)) (sym (table_length f (length a.to.now))))

@@ -26,7 +26,7 @@ returns-in_err-count g c =
     let same : c.from_residual.result ≡ Err r = search rules in
     let zeros : List ℕ = replicate g.row.N 0 in
     let long = length-replicate {A = ℕ} g.row.N 0 in
-    let rest = plan_outcome a.image.bytes.now a.image.len (hex_plan a.address_unit (blocks_of a.offsets.now a.sizes.now)) (length a.out.now) in
+    let rest = plan_outcome a.image.bytes.now a.image.len (hex_plan a.unit.bits (blocks_of a.offsets.now a.sizes.now)) (length a.out.now) in
     rw (
       same,
       refused_found a.offsets.now a.sizes.now zeros c.get_blocks.new.block_offsets zeros c.get_blocks.new.block_sizes refused rest r
@@ -51,8 +51,8 @@ returns g c =
     let blocks = blocks_of a.offsets.now a.sizes.now in
     let many : n ≡ length blocks = omega (arith, f.1.counted) in
     let within : n ≤ length zeros = omega (arith, blocks_few a.offsets.now a.sizes.now, many, c.requires.room f.2, length-replicate {A = ℕ} g.row.N 0) in
-    let rest = plan_outcome a.image.bytes.now a.image.len (hex_plan a.address_unit blocks) (length a.out.now) in
+    let rest = plan_outcome a.image.bytes.now a.image.len (hex_plan a.unit.bits blocks) (length a.out.now) in
     let good = good_found a.offsets.now a.sizes.now zeros new.block_offsets zeros new.block_sizes refused rest n c.in_ok-count.ensures in
     let found : blocks_at (take n new.block_offsets) (take n new.block_sizes) ≡ blocks =
     rw (front zeros new.block_offsets (λ b. b.offset) blocks n many within f.1.offsets, front zeros new.block_sizes (λ b. b.size) blocks n many within f.1.sizes) (blocks_back blocks) in
-    rw (good, ← found) c.format_blocks.ensures
+    rw (good, ← found) c.format_plan.ensures
