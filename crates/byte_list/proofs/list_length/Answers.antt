@@ -12,16 +12,17 @@ use Rattle.byte_list.proofs.list_length.Goals as goal
 pub overflow_add-result : goal.overflow_add-result
 overflow_add-result c =
     let small : c.between_length-between.result ≤ 2 ^ 32 * 2 ^ 17 + 2 ^ 32 * 2 ^ 17 = let a = c.args in
-    omega (arith, c.between_length-between.ensures, between_small 16 (a.separator + a.start) a.separator a.count (2 ^ 32) (2 ^ 17) (search rules) (omega arith) (search rules)) in
+    omega (arith, c.between_length-between.ensures, between_small 16 (a.separator + a.start) a.separator a.bytes.count (2 ^ 32) (2 ^ 17) (search rules) (omega arith) (search rules)) in
     omega (arith, small, c.bytes_length.ensures.1)
 
-pub returns : goal.returns
-returns c =
+pub returns-clause-length : goal.returns-clause-length
+returns-clause-length c s line e f =
+    let a = c.args in
+    lengths.list_length (radix_number a.radix) s line a.bytes.image.bytes.now a.bytes.image.len a.start (λ k h. f k (rw a.bytes.all h))
+    ∙ rw (e, ← a.bytes.all, ← c.bytes_length.ensures.0, ← c.between_length-between.ensures)
+
+pub returns-clause-few : goal.returns-clause-few
+returns-clause-few c =
     let small : c.between_length-between.result ≤ 2 ^ 32 * 2 ^ 17 + 2 ^ 32 * 2 ^ 17 = let a = c.args in
-    omega (arith, c.between_length-between.ensures, between_small 16 (a.separator + a.start) a.separator a.count (2 ^ 32) (2 ^ 17) (search rules) (omega arith) (search rules)) in
-    let a = c.args in (
-      λ s line e f.
-          lengths.list_length (radix_number a.radix) s line a.image.bytes.now a.image.len a.start (λ k h. f k (rw c.requires.1 h))
-          ∙ rw (e, ← c.requires.1, ← c.bytes_length.ensures.0, ← c.between_length-between.ensures),
-      omega (arith, small, c.bytes_length.ensures.1),
-    )
+    omega (arith, c.between_length-between.ensures, between_small 16 (a.separator + a.start) a.separator a.bytes.count (2 ^ 32) (2 ^ 17) (search rules) (omega arith) (search rules)) in
+    omega (arith, small, c.bytes_length.ensures.1)
