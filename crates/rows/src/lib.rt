@@ -11,7 +11,7 @@ ghost use Rattle.rows.specs.declared.ByteDigits.TheVariants.{Hex};
 ghost use Rattle.rows.specs.Rows.{digits_per_byte, digit_bits, byte_digits, bytes_text, slice_text, rows_text};
 
 use bitvec::WholeBytes;
-use numbers::Letters;
+use numbers::{DigitWidth, Letters};
 
 // How a byte is written: a digit for each bit, or two hexadecimal digits.
 #[derive(Clone, Copy)]
@@ -34,12 +34,12 @@ impl ByteDigits {
     }
 
     // How many bits a digit has.
-    pub fn bits(self) -> usize
-        ensures { result ≡ digit_bits self }
+    pub fn width(self) -> DigitWidth
+        ensures { result.bits ≡ digit_bits self }
     {
         match self {
-            ByteDigits::Binary => 1,
-            ByteDigits::Hex => 4,
+            ByteDigits::Binary => DigitWidth::BINARY,
+            ByteDigits::Hex => DigitWidth::HEX,
         }
     }
 
