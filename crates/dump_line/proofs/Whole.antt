@@ -12,7 +12,6 @@ use Rattle.output.specs.Ascii.{ascii}
 use Rattle.output.specs.Pieces.{pieces, leading, joined, every}
 use Rattle.output.proofs.Pieces.{pieces_equal}
 use Rattle.output.proofs.Joined.{joined_next, joined_room}
-use Rattle.numbers.specs.Digits.{digits_of}
 use Rattle.rows.specs.declared.ByteDigits.{ByteDigits}
 use Rattle.rows.specs.declared.ByteDigits.TheVariants.{Binary, Hex}
 use Rattle.rows.specs.Rows.{digits_per_byte, digit_bits, byte_digits, bytes_text, rows_text}

@@ -1,8 +1,5 @@
 -- `dump_line::put_eight_chars` meets its contract: the characters of the column are those that were found.
 -- Assumes nothing.
-use mathlib.Core.Path.{◌≡◌}
-use Prim.Native.Nat.{◌+◌}
-use native.Mathlib.Omega.{arith}
 use Rattle.output.specs.Pieces.{pieces}
 use Rattle.dump_line.proofs.put_eight_chars.Goals as goal
 

@@ -1,7 +1,7 @@
 -- `dump_line::put_whole_chars` meets its contract: after k turns k characters are written.
 -- Assumes nothing.
 use mathlib.Core.Path.{◌≡◌, refl, ◌∙◌}
-use Prim.Native.Nat.{◌+◌, ◌-◌, ◌<◌}
+use Prim.Native.Nat.{◌+◌, ◌<◌}
 use native.Mathlib.Omega.{arith}
 use lib.ListN.{get_or, take, drop, length-take}
 use borrow.Author.Rules.{rules}
