@@ -3,17 +3,10 @@
 use native.Mathlib.Omega.{arith}
 use borrow.Author.Rules.{rules}
 use Prim.Native.Nat.{◌^◌}
-use Rattle.std.proofs.lemmas.Iterator.{YieldsList-from_slice, YieldsList-from_map}
+use Rattle.std.proofs.lemmas.Iterator.{YieldsList-from_slice}
 use Rattle.std.proofs.lemmas.Iterator.Adapters.{fits_from_length, at_most_from_yields_List}
-use Rattle.std.proofs.lemmas.Iterator.Consumers.{sum_by_from_yields_List}
-use Rattle.numbers.specs.Digits.{digit_count}
 use Rattle.byte_list.proofs.block_length.Goals as goal
 
 pub sum-requires-clause-fits : goal.sum-requires-clause-fits
 sum-requires-clause-fits c =
     fits_from_length _ _ 64 (2 ^ 8) (at_most_from_yields_List (YieldsList-from_slice c.args.block.now cc) (omega arith)) c.map.ensures.closure (omega arith) (λ x r q k. search rules)
-
-pub returns : goal.returns
-returns c =
-    sum_by_from_yields_List (digit_count 10) c.args.block.now c.map.result c.sum.result c.sum.ensures.ran
-    (YieldsList-from_map _ (digit_count 10) (YieldsList-from_slice c.args.block.now cc) c.map.ensures.closure (λ x r q k. search rules))

@@ -5,7 +5,7 @@ use mathlib.Core.List.{List}
 use Prim.Native.Nat.{ℕ, ◌<◌}
 use native.Mathlib.Omega.{arith}
 use borrow.Author.Rules.{rules}
-use lib.ListN.{length, get_or, drop, length-take, length-append}
+use lib.ListN.{length, get_or, length-take, length-append}
 use Rattle.std.proofs.lemmas.List.{get_or-take}
 use Rattle.bitvec.specs.Bits.{byte_at}
 use Rattle.output.specs.Pieces.{pieces}
@@ -13,10 +13,6 @@ use Rattle.output.proofs.Pieces.{pieces_next}
 use Rattle.byte_list.specs.Bytes.{byte_in}
 use Rattle.byte_list.proofs.Lengths as lengths
 use Rattle.byte_list.proofs.decimal_length.Goals as goal
-
-pub overflow_add-total : goal.overflow_add-total
-overflow_add-total c =
-    omega (arith, c.decimal_count-total.ensures, lengths.decimal_small c.byte.result c.byte.type_inv, c.loop-k.invariant.2)
 
 pub loop-k-preserved : goal.loop-k-preserved
 loop-k-preserved c =
@@ -28,11 +24,6 @@ loop-k-preserved c =
     let digits = rw c.byte.ensures at c.decimal_count-total.ensures in
     let few = lengths.decimal_small c.byte.result c.byte.type_inv in
     (omega arith, omega (arith, more, byte, digits, c.loop-k.invariant.1), omega (arith, few, c.decimal_count-total.ensures, c.loop-k.invariant.2))
-
-pub digits_length-total-requires : goal.digits_length-total-requires
-digits_length-total-requires c =
-    let b = c.args.bytes in
-    omega (arith, ap length c.slice-lent.ensures, length-take c.part.result.count (drop c.part.result.first c.part.result.image.bytes.now), c.part.ensures.2, b.few, b.inside.0)
 
 pub loop-k-init : goal.loop-k-init
 loop-k-init c =
