@@ -22,5 +22,5 @@ loop-j-preserved c = (
 pub returns : goal.returns
 unfolding dump_byte
 returns c =
-    let done : c.loop-j.j ≡ 8 / c.args.width = omega arith in
+    let done : c.loop-j.j ≡ 8 / c.args.line.width = omega arith in
     writes_then (rw done at c.loop-j.invariant.1) c.put.ensures
