@@ -2,7 +2,7 @@
 -- Assumes nothing.
 use mathlib.Core.Path.{◌≡◌, sym, ap, ◌∙◌}
 use mathlib.Core.List.{List, [], ◌++◌, append-nil}
-use Prim.Native.Nat.{ℕ, ◌+◌, ◌-◌, ◌*◌, ◌%◌, ◌≤◌, ◌<◌}
+use Prim.Native.Nat.{ℕ, ◌+◌, ◌*◌, ◌%◌, ◌≤◌, ◌<◌}
 use native.Mathlib.Omega.{arith}
 use lib.ListN.{length, take, drop, get_or}
 use Rattle.std.proofs.lemmas.List.{length-take, get_or-take, get_or-drop}
@@ -31,15 +31,15 @@ unfolding items_text
 items_room radix s bytes len first j n h = pieces_room _ j n h
 
 -- A byte of those that are lent from byte first on is one of the first n, and it is that byte of the image.
-pub lent_few : (bytes : List ℕ) (first n j : ℕ) → j < length (take (first + n - first) (drop first bytes)) → j < n
-lent_few bytes first n j h = omega (arith, length-take (first + n - first) (drop first bytes))
+pub lent_few : (bytes : List ℕ) (first n j : ℕ) → j < length (take n (drop first bytes)) → j < n
+lent_few bytes first n j h = omega (arith, length-take n (drop first bytes))
 
-pub lent_byte : (bytes : List ℕ) (len first n j : ℕ) → (let lent = take (first + n - first) (drop first bytes) in
+pub lent_byte : (bytes : List ℕ) (len first n j : ℕ) → (let lent = take n (drop first bytes) in
     j < length lent → (first + n) * 8 ≤ len → get_or lent j 0 < 256 → byte_at bytes len (first + j) ≡ get_or lent j 0)
 lent_byte bytes len first n j h l small =
     let few = lent_few bytes first n j h in
-    let same : get_or (take (first + n - first) (drop first bytes)) j 0 ≡ get_or bytes (first + j) 0 =
-    get_or-take (first + n - first) (drop first bytes) j 0 (omega arith) ∙ get_or-drop first bytes j 0 in
+    let same : get_or (take n (drop first bytes)) j 0 ≡ get_or bytes (first + j) 0 =
+    get_or-take n (drop first bytes) j 0 (omega arith) ∙ get_or-drop first bytes j 0 in
     byte_whole bytes len (first + j) (omega arith) (omega (arith, same)) ∙ sym same
 
 -- What stands before byte k, and byte k.

@@ -1,18 +1,18 @@
 -- The lengths of the list and its parts, which the exporters compute before they write.
 -- Assumes nothing.
-use mathlib.Core.Path.{◌≡◌, refl, ◌∙◌}
+use mathlib.Core.Path.{◌≡◌, refl, ap, ◌∙◌}
 use mathlib.Core.Bool.{Bool, true, false, cond}
 use mathlib.Core.List.{List, ◌++◌}
 use Prim.Native.Nat.{ℕ, zero, suc, ◌+◌, ◌-◌, ◌*◌, ◌/◌, ◌%◌, ◌≤◌, ◌<◌}
 use native.Mathlib.Omega.{arith}
 use lib.Dec.{eqb}
 use native.Mathlib.Nat.{suc-mul}
-use lib.ListN.{length, take, drop, get_or, length-append}
+use lib.ListN.{length, take, drop, get_or, length-append, take-append-drop}
 use lib.Seq.{take-suc, take-add}
 use Rattle.std.specs.Prelude.{sum_by}
 use Rattle.std.specs.Simd.{first_chunks}
-use Rattle.std.proofs.lemmas.List.{take_more}
-use Rattle.std.proofs.lemmas.List.Sums.{sum_by_push, sum_by-append, sum_by-cons}
+use Rattle.std.proofs.lemmas.List.Elements.{All-from_get_or}
+use Rattle.std.proofs.lemmas.List.Sums.{sum_by_push, sum_by-append, sum_by-cons, sum_by-le}
 use borrow.Author.Tests.{ne_eqb}
 use Rattle.bitvec.specs.Bits.{byte_at}
 use Rattle.bitvec.specs.Size.{ceil_div}
@@ -38,10 +38,9 @@ decimal_small b h =
     (λ p. omega (arith, count_last 10 b p))
     (λ p. by_order b 100 (λ q. omega (arith, count_two b p q)) (λ q. omega (arith, count_three b q (omega arith))))
 
--- The digits of some bytes and of one more.
-pub digits_next : (bytes : List ℕ) (i : ℕ) → i < length bytes
-    → sum_by (digit_count 10) (take (i + 1) bytes) ≡ sum_by (digit_count 10) (take i bytes) + digit_count 10 (get_or bytes i 0)
-digits_next bytes i h = rw (take_more bytes i 0 h) (sum_by_push (digit_count 10) (take i bytes) (get_or bytes i 0))
+-- Bytes have few digits.
+pub digits_few : (bytes : List ℕ) → ((k : ℕ) → k < length bytes → get_or bytes k 0 < 256) → sum_by (digit_count 10) bytes ≤ length bytes * 3
+digits_few bytes small = sum_by-le (digit_count 10) 3 bytes (All-from_get_or (λ x. digit_count 10 x ≤ 3) bytes 0 (λ k h. decimal_small (get_or bytes k 0) (small k h)))
 
 -- The first bytes of an image, which are whole, have the digits of these bytes.
 pub whole_digits : (bytes : List ℕ) (len n : ℕ) → n * 8 ≤ len → n ≤ length bytes → ((k : ℕ) → k < n → get_or bytes k 0 < 256)
@@ -73,6 +72,17 @@ blocks_digits n (suc k) bytes =
       sum_by-cons (sum_by (digit_count 10)) (take n bytes) (first_chunks n k (drop n bytes)),
       blocks_digits n k (drop n bytes),
     ) refl
+
+-- Those of the blocks of 64 and of the bytes behind them are those of all bytes, and few.
+pub parts_digits : (bytes : List ℕ) (front back : ℕ) → ((k : ℕ) → k < length bytes → get_or bytes k 0 < 256)
+    → front ≡ sum_by (sum_by (digit_count 10)) (first_chunks 64 (length bytes / 64) bytes)
+    → back ≡ sum_by (digit_count 10) (drop (length bytes / 64 * 64) bytes)
+    → (front + back ≡ sum_by (digit_count 10) bytes) × (sum_by (digit_count 10) bytes ≤ length bytes * 3)
+parts_digits bytes front back small p q =
+    let n = length bytes / 64 in
+    let both = sum_by-append (digit_count 10) (take (n * 64) bytes) (drop (n * 64) bytes) in
+    let all = ap (sum_by (digit_count 10)) (take-append-drop (n * 64) bytes) in
+    (omega (arith, blocks_digits 64 n bytes), digits_few bytes small)
 
 -- A byte in radix 16 has four characters.
 pub hex_length : (b : ℕ) → length (byte_in 16 b) ≡ 4

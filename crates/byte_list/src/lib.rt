@@ -9,7 +9,7 @@ ghost use Rattle.output.specs.Pieces.{pieces};
 ghost use Rattle.numbers.specs.Digits.{digit_count};
 ghost use Rattle.byte_list.specs.Bytes.{radix_number, bad_radix, byte_in, byte_list};
 
-use bitvec::{BitOffset, Image};
+use bitvec::{BitOffset, GoodImage, Image, WholeBytes};
 
 // The radix of a list's bytes.
 #[derive(Clone, Copy)]
@@ -32,99 +32,117 @@ impl ByteRadix {
     }
 }
 
-// How many of the first `count` bytes are whole: within the bit length, and lent.
-pub fn whole_bytes(image: Image, count: usize) -> usize
-    ensures { (result ≤ count) × (result * 8 ≤ image.entry.len) × (result ≤ length image.entry.bytes.now) × (result ≡ min (min (image.entry.len / 8) (length image.entry.bytes.now)) count) }
-{
-    image.whole_bytes().min(count)
+// The bytes of an image, the last of them perhaps not whole: how many there are, and how many of the
+// first are whole, within the bit length and lent.
+#[derive(Clone, Copy)]
+pub struct ImageBytes<'a> {
+    pub image: Image<'a>,
+    pub count: usize,
+    pub whole: usize,
+    pub ghost all: { count ≡ ceil_div image.len 8 },
+    pub ghost few: { count < 2 ^ 32 },
+    pub ghost inside: { (whole ≤ count) × (whole * 8 ≤ image.len) × (whole ≤ length image.bytes.now) },
 }
 
-// Byte `k`, where the first `whole` bytes are whole: such a byte is read as it stands.
-pub fn byte_of(image: Image, whole: usize, k: usize) -> u8
-    requires { (k < 2 ^ 32) × (whole * 8 ≤ image.len) × (whole ≤ length image.bytes.now) }
-    ensures { result ≡ byte_at image.entry.bytes.now image.entry.len k }
-{
-    if k < whole {
-        return image.bytes[k];
+impl<'a> ImageBytes<'a> {
+    pub fn new(good: GoodImage<'a>) -> ImageBytes<'a>
+        ensures { (result.image ≡ good.entry.image) × (result.whole ≡ min (good.entry.image.len / 8) (length good.entry.image.bytes.now)) }
+    {
+        let image = good.image;
+        ImageBytes {
+            image,
+            count: bitvec::parts(image.len, 8),
+            whole: image.whole_bytes(),
+        }
     }
-    image.read_byte(BitOffset(k * 8))
+
+    // Byte `k`: a whole one is read as it stands.
+    pub fn byte(self, k: usize) -> u8
+        requires { k < 2 ^ 32 }
+        ensures { result ≡ byte_at self.entry.image.bytes.now self.entry.image.len k }
+    {
+        if k < self.whole {
+            return self.image.bytes[k];
+        }
+        self.image.read_byte(BitOffset(k * 8))
+    }
+
+    // `count` of the whole bytes, from byte `first` on.
+    pub fn part(self, first: usize, count: usize) -> WholeBytes<'a>
+        requires { first + count ≤ self.whole }
+        ensures { (result.image ≡ self.entry.image) × (result.first ≡ first) × (result.count ≡ count) }
+    {
+        WholeBytes {
+            image: self.image,
+            first,
+            count,
+        }
+    }
+}
+
+// How many decimal digits a byte has, as a byte.
+#[tactic(auto, using(crate::proofs::Lengths::decimal_small))]
+fn short_count(byte: u8) -> u8
+    ensures { (result ≡ digit_count 10 byte) × (result ≤ 3) }
+{
+    numbers::decimal_count(byte) as u8
 }
 
 // The length of 64 bytes in radix 10. A sum of one byte lets the compiler add many at once.
-#[tactic(auto, using(crate::proofs::Lengths::decimal_small, crate::proofs::Lengths::digits_next))]
 fn block_length(block: &[u8; 64]) -> u8
-    ensures { (result ≡ sum_by (digit_count 10) block.now) × (result ≤ 192) }
+    ensures { result ≡ sum_by (digit_count 10) block.now }
 {
-    let mut total: u8 = 0;
-    for &byte in block {
-        total += numbers::decimal_count(byte) as u8;
-    }
-    total
+    block.iter().map(|&byte| short_count(byte)).sum()
 }
 
 // The length of whole bytes in radix 10: of blocks, and of those behind the last block.
-#[tactic(auto, using(crate::proofs::Lengths::decimal_small, crate::proofs::Lengths::digits_next))]
 fn digits_length(bytes: &[u8]) -> usize
     requires { length bytes.now < 2 ^ 32 }
     ensures { (result ≡ sum_by (digit_count 10) bytes.now) × (result ≤ length bytes.now * 8) }
 {
     let (blocks, rest) = bytes.as_chunks::<64>();
-    let mut total: usize = 0;
-    for block in blocks {
-        total += block_length(block) as usize;
-    }
-    for &byte in rest {
-        total += numbers::decimal_count(byte);
-    }
-    total
+    let front: usize = blocks
+        .iter()
+        .map(|block| usize::from(block_length(block)))
+        .sum();
+    let back: usize = rest
+        .iter()
+        .map(|&byte| usize::from(short_count(byte)))
+        .sum();
+    front + back
 }
 
-// The length of the first `count` bytes in radix 10, which are whole in an image of `len` bits.
-fn whole_length(bytes: &[u8], len: usize, count: usize) -> usize
-    requires { (count < 2 ^ 32) × (count * 8 ≤ len) × (count ≤ length bytes.now) }
-    ensures { (result ≡ length (pieces (λ k. byte_in 10 (byte_at bytes.now len k)) count)) × (result ≤ count * 8) }
-{
-    digits_length(&bytes[..count])
-}
-
-// The length of the first `count` bytes in radix 10, which differ in length: each is measured.
+// The length of all bytes in radix 10, which differ in length: each is measured. A byte that is not
+// whole is read by its number.
 #[tactic(auto, using(crate::proofs::Lengths::decimal_small))]
-fn decimal_length(image: Image, count: usize) -> usize
-    requires { count < 2 ^ 32 }
-    ensures { (result ≡ length (pieces (λ k. byte_in 10 (byte_at image.entry.bytes.now image.entry.len k)) count)) × (result ≤ count * 8) }
+fn decimal_length(bytes: ImageBytes) -> usize
+    ensures { (result ≡ length (pieces (λ k. byte_in 10 (byte_at bytes.entry.image.bytes.now bytes.entry.image.len k)) bytes.entry.count)) × (result ≤ bytes.entry.count * 8) }
 {
-    let whole = whole_bytes(image, count);
-    let mut total = whole_length(image.bytes, image.len, whole);
-    for k in whole..count {
-        let byte = image.read_byte(BitOffset(k * 8));
-        total += numbers::decimal_count(byte);
+    let lent = bytes.part(0, bytes.whole).slice();
+    let mut total = digits_length(lent);
+    for k in bytes.whole..bytes.count {
+        total += numbers::decimal_count(bytes.byte(k));
     }
     total
 }
 
-// The length of the first `count` bytes in a radix, without what stands between them.
-fn bytes_length(image: Image, radix: ByteRadix, count: usize) -> usize
-    requires { count < 2 ^ 32 }
-    ensures { (result ≡ length (pieces (λ k. byte_in (radix_number radix) (byte_at image.entry.bytes.now image.entry.len k)) count)) × (result ≤ count * 8) }
+// The length of all bytes in a radix, without what stands between them.
+fn bytes_length(bytes: ImageBytes, radix: ByteRadix) -> usize
+    ensures { (result ≡ length (pieces (λ k. byte_in (radix_number radix) (byte_at bytes.entry.image.bytes.now bytes.entry.image.len k)) bytes.entry.count)) × (result ≤ bytes.entry.count * 8) }
 {
     match radix {
-        ByteRadix::Decimal => decimal_length(image, count),
-        ByteRadix::Hex => count * 4,
+        ByteRadix::Decimal => decimal_length(bytes),
+        ByteRadix::Hex => bytes.count * 4,
     }
 }
 
-// The length of the list of `count` bytes whose separator has the length `separator` and whose lines
+// The length of the list of all bytes whose separator has the length `separator` and whose lines
 // start with texts of the length `start`.
-pub fn list_length(
-    image: Image,
-    radix: ByteRadix,
-    count: usize,
-    separator: usize,
-    start: usize,
-) -> usize
-    requires { (count < 2 ^ 32) × (count ≡ ceil_div image.len 8) × (separator ≤ 2 ^ 16) × (start ≤ 2 ^ 16) }
-    ensures { ((s : List ℕ) (line : ℕ → List ℕ) → length s ≡ separator → ((k : ℕ) → k < count → length (line k) ≡ start) → length (byte_list (radix_number radix) s line image.entry.bytes.now image.entry.len) ≡ result) × (result < 2 ^ 60) }
+pub fn list_length(bytes: ImageBytes, radix: ByteRadix, separator: usize, start: usize) -> usize
+    requires { (separator ≤ 2 ^ 16) × (start ≤ 2 ^ 16) }
+    ensures length { (s : List ℕ) (line : ℕ → List ℕ) → length s ≡ separator → ((k : ℕ) → k < bytes.entry.count → length (line k) ≡ start) → length (byte_list (radix_number radix) s line bytes.entry.image.bytes.now bytes.entry.image.len) ≡ result }
+    ensures few { result < 2 ^ 60 }
 {
-    let between = output::between_length(count, 16, separator + start, separator);
-    between + bytes_length(image, radix, count)
+    let between = output::between_length(bytes.count, 16, separator + start, separator);
+    between + bytes_length(bytes, radix)
 }

@@ -12,7 +12,6 @@ use Rattle.output.specs.Ascii.{ascii}
 use Rattle.output.specs.Pieces.{pieces, leading, joined, every}
 use Rattle.output.proofs.Pieces.{pieces_equal}
 use Rattle.output.proofs.Joined.{joined_next, joined_room}
-use Rattle.numbers.specs.Digits.{digits_of}
 use Rattle.rows.specs.declared.ByteDigits.{ByteDigits}
 use Rattle.rows.specs.declared.ByteDigits.TheVariants.{Binary, Hex}
 use Rattle.rows.specs.Rows.{digits_per_byte, digit_bits, byte_digits, bytes_text, rows_text}
@@ -46,11 +45,6 @@ whole_byte : (kind : ByteDigits) (bytes : List ℕ) (len i : ℕ) → i * 8 + 8 
 unfolding dump_byte
 whole_byte kind bytes len i h =
     ap (λ (t : List ℕ). t ++ ascii " ") (digits_inside kind bytes len i h ∙ sym (bytes_run kind bytes len i 1) ∙ single kind bytes len i)
-
--- The same in binary digits.
-pub binary_byte : (bytes : List ℕ) (len i : ℕ) → i * 8 + 8 ≤ len → get_or bytes i 0 < 256 → dump_byte bytes len 1 (i * 8) ≡ digits_of 1 8 (get_or bytes i 0) ++ ascii " "
-unfolding byte_digits
-binary_byte bytes len i h l = whole_byte Binary bytes len i h ∙ rw (byte_whole bytes len i h l)
 
 -- Before a byte stands one more space where its number is a multiple of four.
 gap_whole : (j : ℕ) → 0 < j → j % 4 ≡ 0 → leading gap j ≡ ascii " "
@@ -91,43 +85,46 @@ group_next kind bytes len first k h =
     let step : (k + 1) * 4 ≡ k * 4 + 4 = omega arith in
     rw (step, group kind bytes len first (k * 4) 4 (omega arith) (omega arith) (omega arith) h, gap_whole (k * 4 + 4) (omega arith) (omega arith)) (simp append_assoc)
 
--- It has room where a longer line has: in hexadecimal it takes 13 places.
-pub group_room : (bytes : List ℕ) (len first k n : ℕ) → k * 4 + 4 < n → (first + k * 4 + 4) * 8 ≤ len
-    → (length (rows_text Hex bytes len (first + k * 4) 1 (ascii " ") 4) ≡ 12)
-    × (length (before Hex bytes len first (k * 4)) + 13 ≤ length (digit_column bytes len 4 first n))
-group_room bytes len first k n l h =
-    let item : ℕ → List ℕ = λ k. dump_byte bytes len 4 ((first + k) * 8) in
-    let row = rows_text Hex bytes len (first + k * 4) 1 (ascii " ") 4 in
+-- It has room where a longer line has.
+pub group_room : (kind : ByteDigits) (bytes : List ℕ) (len first k n : ℕ) → k * 4 + 4 < n → (first + k * 4 + 4) * 8 ≤ len
+    → (length (rows_text kind bytes len (first + k * 4) 1 (ascii " ") 4) ≡ 4 * (digits_per_byte kind + 1))
+    × (length (before kind bytes len first (k * 4)) + 4 * (digits_per_byte kind + 1) + 1 ≤ length (digit_column bytes len (digit_bits kind) first n))
+group_room kind bytes len first k n l h =
+    let item : ℕ → List ℕ = λ k. dump_byte bytes len (digit_bits kind) ((first + k) * 8) in
+    let row = rows_text kind bytes len (first + k * 4) 1 (ascii " ") 4 in
     let step : (k + 1) * 4 ≡ k * 4 + 4 = omega arith in
-    let long = rows_length Hex bytes len (first + k * 4) 1 (ascii " ") 4 in (
+    let long = rows_length kind bytes len (first + k * 4) 1 (ascii " ") 4 in (
       omega (arith, long),
       omega (
         arith,
         long,
         joined_room gap item ((k + 1) * 4) n (omega arith),
-        ap length (group_next Hex bytes len first k h),
+        ap length (group_next kind bytes len first k h),
         length-append (joined gap item ((k + 1) * 4)) (leading gap ((k + 1) * 4)),
-        length-append (before Hex bytes len first (k * 4)) (row ++ ascii " "),
+        length-append (before kind bytes len first (k * 4)) (row ++ ascii " "),
         length-append row (ascii " "),
       ),
     )
 
 -- The last group, behind k others.
-pub group_last : (bytes : List ℕ) (len first k n : ℕ) → k * 4 < n → n ≤ k * 4 + 4 → (first + n) * 8 ≤ len
-    → (digit_column bytes len 4 first n ≡ before Hex bytes len first (k * 4) ++ rows_text Hex bytes len (first + k * 4) 1 (ascii " ") (n - k * 4))
-    × (length (before Hex bytes len first (k * 4)) + (n - k * 4) * 3 ≡ length (digit_column bytes len 4 first n))
-group_last bytes len first k n p l h =
+pub group_last : (kind : ByteDigits) (bytes : List ℕ) (len first k n : ℕ) → k * 4 < n → n ≤ k * 4 + 4 → (first + n) * 8 ≤ len
+    → (digit_column bytes len (digit_bits kind) first n ≡ before kind bytes len first (k * 4) ++ rows_text kind bytes len (first + k * 4) 1 (ascii " ") (n - k * 4))
+    × (length (before kind bytes len first (k * 4)) + (n - k * 4) * (digits_per_byte kind + 1) ≡ length (digit_column bytes len (digit_bits kind) first n))
+group_last kind bytes len first k n p l h =
     let all : k * 4 + (n - k * 4) ≡ n = omega arith in
-    let row = rows_text Hex bytes len (first + k * 4) 1 (ascii " ") (n - k * 4) in
-    let whole : digit_column bytes len 4 first n ≡ before Hex bytes len first (k * 4) ++ row =
-    ap (digit_column bytes len 4 first) (sym all)
-    ∙ group Hex bytes len first (k * 4) (n - k * 4) (omega arith) (omega arith) (omega arith) (omega arith)
+    let row = rows_text kind bytes len (first + k * 4) 1 (ascii " ") (n - k * 4) in
+    let whole : digit_column bytes len (digit_bits kind) first n ≡ before kind bytes len first (k * 4) ++ row =
+    ap (digit_column bytes len (digit_bits kind) first) (sym all)
+    ∙ group kind bytes len first (k * 4) (n - k * 4) (omega arith) (omega arith) (omega arith) (omega arith)
     ∙ simp append_assoc in (
       whole,
-      omega (arith, ap length whole, length-append (before Hex bytes len first (k * 4)) row, rows_length Hex bytes len (first + k * 4) 1 (ascii " ") (n - k * 4)),
+      omega (arith, ap length whole, length-append (before kind bytes len first (k * 4)) row, rows_length kind bytes len (first + k * 4) 1 (ascii " ") (n - k * 4)),
     )
 
--- A whole byte as a character.
-pub whole_char : (bytes : List ℕ) (len i : ℕ) → i * 8 + 8 ≤ len → get_or bytes i 0 < 256 → dump_char bytes len (i * 8) ≡ printed (get_or bytes i 0)
+-- A byte within the image as a character, and one that is whole.
+pub char_inside : (bytes : List ℕ) (len i : ℕ) → i * 8 < len → dump_char bytes len (i * 8) ≡ printed (byte_at bytes len i)
 unfolding dump_char
-whole_char bytes len i h l = simp (lt-ltb (i * 8) len (omega arith)) (ap printed (byte_whole bytes len i h l))
+char_inside bytes len i h = simp (lt-ltb (i * 8) len h)
+
+pub whole_char : (bytes : List ℕ) (len i : ℕ) → i * 8 + 8 ≤ len → get_or bytes i 0 < 256 → dump_char bytes len (i * 8) ≡ printed (get_or bytes i 0)
+whole_char bytes len i h l = char_inside bytes len i (omega arith) ∙ ap printed (byte_whole bytes len i h l)

@@ -2,32 +2,60 @@
 // bytes as characters.
 #![tactic(auto)]
 
-ghost use Rattle.std.specs.Prelude.{◌≡◌, cond, true, List, ℕ, ◌+◌, ◌*◌, ◌/◌, ◌≤◌, ◌<◌, ◌^◌, length};
+ghost use Rattle.std.specs.Prelude.{◌≡◌, cond, List, ℕ, ◌+◌, ◌*◌, ◌/◌, ◌≤◌, ◌<◌, ◌^◌, length, MatchOption};
 ghost use Rattle.output.specs.Ascii.{ascii};
 ghost use Rattle.output.specs.Writes.{Writes};
 ghost use Rattle.numbers.specs.Digits.{digit_count};
-ghost use Rattle.rows.specs.declared.ByteDigits.TheVariants.{Hex};
-ghost use Rattle.rows.specs.Rows.{rows_text};
+ghost use Rattle.rows.specs.Rows.{digits_per_byte, digit_bits, rows_text};
 ghost use Rattle.dump_line.specs.Line.{dump_digit, printed, dump_char, dump_byte, digit_column, char_column, dump_line};
 
-use bitvec::{BitOffset, Image};
+use bitvec::{BitOffset, Image, WholeBytes};
 use numbers::{Letters, Radix};
 use rows::ByteDigits;
+
+// A line: `count` bytes of an image from byte `first` on, in digits of `width` bits.
+#[derive(Clone, Copy)]
+pub struct DumpLine<'a> {
+    pub image: Image<'a>,
+    pub width: usize,
+    pub first: usize,
+    pub count: usize,
+    pub ghost digits: { (0 < width) × (width ≤ 4) },
+    pub ghost low: { first < 2 ^ 32 },
+    pub ghost few: { (0 < count) × (count ≤ 64) },
+    pub ghost lent: { image.len ≤ 8 * length image.bytes.now },
+}
+
+impl<'a> DumpLine<'a> {
+    // Its bytes, where all of them are whole.
+    #[inline(always)]
+    fn whole(self) -> Option<WholeBytes<'a>>
+        ensures { MatchOption result (self.entry.image.len < (self.entry.first + self.entry.count) * 8) (λ b. (b.image ≡ self.entry.image) × (b.first ≡ self.entry.first) × (b.count ≡ self.entry.count)) }
+    {
+        if self.image.len < (self.first + self.count) * 8 {
+            return None;
+        }
+        Some(WholeBytes {
+            image: self.image,
+            first: self.first,
+            count: self.count,
+        })
+    }
+}
 
 // The character of a digit of `width` bits, a point where it starts past the end.
 fn dump_digit(image: Image, width: usize, from: BitOffset) -> u8
     requires { (width ≤ 4) × (from.0 + width < 2 ^ 64) }
     ensures { result ≡ dump_digit image.entry.bytes.now image.entry.len width from.0 }
 {
-    let first = from.0;
-    if image.len <= first {
+    if image.len <= from.0 {
         return b'.';
     }
-    let digit = image.read_bits(BitOffset(first), width);
+    let digit = image.read_bits(from, width);
     numbers::digit_char(Letters::Lower, digit)
 }
 
-// One of two characters.
+// One of two characters: a function, since `printed` is plainer by its promise.
 fn choose(test: bool, yes: u8, no: u8) -> u8
     ensures { result ≡ cond test yes no }
 {
@@ -53,200 +81,146 @@ fn dump_char(image: Image, from: BitOffset) -> u8
     requires { from.0 + 8 < 2 ^ 64 }
     ensures { result ≡ dump_char image.entry.bytes.now image.entry.len from.0 }
 {
-    let bit = from.0;
-    if image.len <= bit {
-        return b'.';
+    if from.0 < image.len {
+        return printed(image.read_byte(from));
     }
-    printed(image.read_byte(BitOffset(bit)))
+    b'.'
 }
 
-// Stores a byte in digits of `width` bits, and a space.
-fn put_dump_byte(out: &mut [u8], at: usize, image: Image, width: usize, from: BitOffset) -> usize
-    requires { (0 < width) × (width ≤ 4) × (from.0 + 8 < 2 ^ 64) × (at + (8 / width + 1) ≤ length out.old) }
-    ensures { Writes (dump_byte image.entry.bytes.now image.entry.len width from.0) out.old at out.new result }
+// Stores the byte of a line's image from a bit on, in digits, and a space. Where digits do not fill a
+// byte, as those of three bits, steps of their width would reach one digit too far.
+fn put_dump_byte(out: &mut [u8], at: usize, line: DumpLine, from: BitOffset) -> usize
+    requires { (from.0 + 8 < 2 ^ 64) × (at + (8 / line.width + 1) ≤ length out.old) }
+    ensures { Writes (dump_byte line.entry.image.bytes.now line.entry.image.len line.entry.width from.0) out.old at out.new result }
 {
     let mut next = at;
-    for j in 0..8 / width {
-        let c = dump_digit(image, width, BitOffset(from.0 + j * width));
+    for j in 0..8 / line.width {
+        let c = dump_digit(line.image, line.width, from.plus(j * line.width));
         next = output::put(out, next, c);
     }
     output::put(out, next, b' ')
 }
 
-// Stores the `count` bytes of a line from byte `first` on, as characters. It asks for each byte where
-// the image ends, and stays a loop of its own: over a slice, as `put_whole_chars` is, it is no plainer.
-fn put_char_column(out: &mut [u8], at: usize, image: Image, first: usize, count: usize) -> usize
-    requires { (first < 2 ^ 32) × (count ≤ 64) × (at + count ≤ length out.old) }
-    ensures { Writes (char_column image.entry.bytes.now image.entry.len first count) out.old at out.new result }
+// Stores the bytes of a line in digits, each behind what stands between it and the one before it, which
+// goes by its number.
+fn put_digit_column(out: &mut [u8], at: usize, line: DumpLine) -> usize
+    requires { at + length (digit_column line.image.bytes.now line.image.len line.width line.first line.count) ≤ length out.old }
+    ensures { Writes (digit_column line.entry.image.bytes.now line.entry.image.len line.entry.width line.entry.first line.entry.count) out.old at out.new result }
 {
     let mut next = at;
-    for j in 0..count {
-        let c = dump_char(image, BitOffset((first + j) * 8));
+    for j in 0..line.count {
+        let from = BitOffset((line.first + j) * 8);
+        next = output::put_between(out, next, 4, j, b' ');
+        next = put_dump_byte(out, next, line, from);
+    }
+    next
+}
+
+// Stores a group of whole bytes in digits, with a space behind each. Four in hexadecimal are the most
+// frequent ones, and too few for `put_rows` to make vector code of: by two the hexdump takes 2.0 ns a
+// byte for 2.7 (the target is a fifteenth of the Rust's time). Put into its callers, since with a call
+// for each group that is 2.2.
+#[inline(always)]
+fn put_group(out: &mut [u8], at: usize, kind: ByteDigits, bytes: WholeBytes) -> usize
+    requires { at + bytes.count * (digits_per_byte kind + 1) ≤ length out.old }
+    ensures { Writes (rows_text kind bytes.entry.image.bytes.now bytes.entry.image.len bytes.entry.first 1 (ascii " ") bytes.entry.count) out.old at out.new result }
+{
+    match kind {
+        ByteDigits::Hex if bytes.count == 4 => rows::put_by_twos(out, at, bytes, b' '),
+        _ => rows::put_rows(out, at, kind, bytes, 1, b" ", bytes.count),
+    }
+}
+
+// Stores the bytes of a line, which are whole, in digits: groups of four with a space between them.
+fn put_groups(out: &mut [u8], at: usize, kind: ByteDigits, bytes: WholeBytes) -> usize
+    requires some { 0 < bytes.count }
+    requires room { at + length (digit_column bytes.image.bytes.now bytes.image.len (digit_bits kind) bytes.first bytes.count) ≤ length out.old }
+    ensures { Writes (digit_column bytes.entry.image.bytes.now bytes.entry.image.len (digit_bits kind) bytes.entry.first bytes.entry.count) out.old at out.new result }
+{
+    let full = (bytes.count - 1) / 4;
+    let mut next = at;
+    for k in 0..full {
+        next = put_group(out, next, kind, bytes.part(k * 4, 4));
+        next = output::put(out, next, b' ');
+    }
+    let last = bytes.part(full * 4, bytes.count - full * 4);
+    put_group(out, next, kind, last)
+}
+
+// Stores the bytes of a line in digits.
+fn put_digits(out: &mut [u8], at: usize, line: DumpLine) -> usize
+    requires { at + length (digit_column line.image.bytes.now line.image.len line.width line.first line.count) ≤ length out.old }
+    ensures { Writes (digit_column line.entry.image.bytes.now line.entry.image.len line.entry.width line.entry.first line.entry.count) out.old at out.new result }
+{
+    match (line.whole(), ByteDigits::with_bits(line.width)) {
+        (Some(bytes), Some(kind)) => put_groups(out, at, kind, bytes),
+        _ => put_digit_column(out, at, line),
+    }
+}
+
+// Stores the bytes of a line as characters. It asks for each byte where the image ends, and stays a loop
+// of its own: over a slice, as `put_whole_chars` is, it is no plainer.
+fn put_char_column(out: &mut [u8], at: usize, line: DumpLine) -> usize
+    requires { at + line.count ≤ length out.old }
+    ensures { Writes (char_column line.entry.image.bytes.now line.entry.image.len line.entry.first line.entry.count) out.old at out.new result }
+{
+    let mut next = at;
+    for j in 0..line.count {
+        let c = dump_char(line.image, BitOffset((line.first + j) * 8));
         next = output::put(out, next, c);
     }
     next
 }
 
-// Stores a group of up to four whole bytes of the image in hexadecimal, with a space behind each: four
-// are the most frequent ones.
-fn put_group(out: &mut [u8], at: usize, image: Image, first: usize, count: usize) -> usize
-    requires inside { ((first + count) * 8 ≤ image.len) × (first + count ≤ length image.bytes.now) }
-    requires room { at + count * 3 ≤ length out.old }
-    ensures { Writes (rows_text Hex image.entry.bytes.now image.entry.len first 1 (ascii " ") count) out.old at out.new result }
-{
-    if count == 4 {
-        return rows::put_by_twos(out, at, image, first, b' ', 2);
-    }
-    rows::put_rows(out, at, ByteDigits::Hex, image, first, 1, b" ", count)
-}
-
-// Stores the `count` bytes of a line from byte `first` on, which are whole bytes of the image, in
-// hexadecimal: groups of four with a space between them.
-fn put_groups(out: &mut [u8], at: usize, image: Image, first: usize, count: usize) -> usize
-    requires inside { (0 < count) × ((first + count) * 8 ≤ image.len) × (first + count ≤ length image.bytes.now) }
-    requires room { at + length (digit_column image.bytes.now image.len 4 first count) ≤ length out.old }
-    ensures { Writes (digit_column image.entry.bytes.now image.entry.len 4 first count) out.old at out.new result }
-{
-    let full = (count - 1) / 4;
-    let mut next = at;
-    for k in 0..full {
-        next = put_group(out, next, image, first + k * 4, 4);
-        next = output::put(out, next, b' ');
-    }
-    put_group(out, next, image, first + full * 4, count - full * 4)
-}
-
-// Stores the `count` bytes of a line from byte `first` on, which are whole bytes of the image, as
-// characters.
-fn put_whole_chars(out: &mut [u8], at: usize, image: Image, first: usize, count: usize) -> usize
-    requires inside { ((first + count) * 8 ≤ image.len) × (first + count ≤ length image.bytes.now) }
-    requires room { at + count ≤ length out.old }
-    ensures { Writes (char_column image.entry.bytes.now image.entry.len first count) out.old at out.new result }
+// Stores whole bytes as characters.
+fn put_whole_chars(out: &mut [u8], at: usize, bytes: WholeBytes) -> usize
+    requires { at + bytes.count ≤ length out.old }
+    ensures { Writes (char_column bytes.entry.image.bytes.now bytes.entry.image.len bytes.entry.first bytes.entry.count) out.old at out.new result }
 {
     let mut next = at;
-    for &byte in &image.bytes[first..first + count] {
+    for &byte in bytes.slice() {
         next = output::put(out, next, printed(byte));
     }
     next
 }
 
-// Stores a whole byte of the image as binary digits, and a space.
-fn put_binary_byte(out: &mut [u8], at: usize, image: Image, first: usize) -> usize
-    requires inside { (first * 8 + 8 ≤ image.len) × (first < length image.bytes.now) }
-    requires room { at + 9 ≤ length out.old }
-    ensures { Writes (dump_byte image.entry.bytes.now image.entry.len 1 (first * 8)) out.old at out.new result }
+// The character of a whole byte.
+fn whole_char(bytes: WholeBytes, place: usize) -> u8
+    requires { place < bytes.count }
+    ensures { result ≡ dump_char bytes.entry.image.bytes.now bytes.entry.image.len ((bytes.entry.first + place) * 8) }
 {
-    let byte = image.bytes[first];
-    let next = eight_chars::put_bits(out, at, byte);
-    output::put(out, next, b' ')
+    printed(bytes.byte(place))
 }
 
-// Stores byte `index` in digits of `width` bits, and a space. `BINARY` promises a whole byte of the image
-// and digits of one bit: a constant, so that the loop of a column does not test it.
-fn put_byte<const BINARY: bool>(
-    out: &mut [u8],
-    at: usize,
-    image: Image,
-    width: usize,
-    index: usize,
-) -> usize
-    requires size { (0 < width) × (width ≤ 4) × (index < 2 ^ 33) }
-    requires whole { BINARY ≡ true → (width ≡ 1) × (index * 8 + 8 ≤ image.len) × (index < length image.bytes.now) }
-    requires room { at + (8 / width + 1) ≤ length out.old }
-    ensures { Writes (dump_byte image.entry.bytes.now image.entry.len width (index * 8)) out.old at out.new result }
+// Stores eight whole bytes as characters. All are found before one is stored, so that the compiler can
+// do them at once. A loop over an array of eight was tried: a bindump then takes almost three times as
+// long, and misses its bar.
+fn put_eight_chars(out: &mut [u8], at: usize, bytes: WholeBytes) -> usize
+    requires { (bytes.count ≡ 8) × (at + 8 ≤ length out.old) }
+    ensures { Writes (char_column bytes.entry.image.bytes.now bytes.entry.image.len bytes.entry.first 8) out.old at out.new result }
 {
-    if BINARY {
-        return put_binary_byte(out, at, image, index);
+    let c0 = whole_char(bytes, 0);
+    let c1 = whole_char(bytes, 1);
+    let c2 = whole_char(bytes, 2);
+    let c3 = whole_char(bytes, 3);
+    let c4 = whole_char(bytes, 4);
+    let c5 = whole_char(bytes, 5);
+    let c6 = whole_char(bytes, 6);
+    let c7 = whole_char(bytes, 7);
+    output::put_all(out, at, &[c0, c1, c2, c3, c4, c5, c6, c7])
+}
+
+// Stores the bytes of a line as characters. The eight bytes of a line of a bindump are too few for a loop
+// to do many at once.
+fn put_chars(out: &mut [u8], at: usize, line: DumpLine) -> usize
+    requires { at + line.count ≤ length out.old }
+    ensures { Writes (char_column line.entry.image.bytes.now line.entry.image.len line.entry.first line.entry.count) out.old at out.new result }
+{
+    match line.whole() {
+        Some(bytes) if bytes.count == 8 => put_eight_chars(out, at, bytes),
+        Some(bytes) => put_whole_chars(out, at, bytes),
+        None => put_char_column(out, at, line),
     }
-    put_dump_byte(out, at, image, width, BitOffset(index * 8))
-}
-
-// Stores the `count` bytes of a line from byte `first` on, in digits of `width` bits.
-fn put_digit_column<const BINARY: bool>(
-    out: &mut [u8],
-    at: usize,
-    image: Image,
-    width: usize,
-    first: usize,
-    count: usize,
-) -> usize
-    requires size { (0 < width) × (width ≤ 4) × (first < 2 ^ 32) × (count ≤ 64) }
-    requires whole { BINARY ≡ true → (width ≡ 1) × ((first + count) * 8 ≤ image.len) × (first + count ≤ length image.bytes.now) }
-    requires room { at + length (digit_column image.bytes.now image.len width first count) ≤ length out.old }
-    ensures { Writes (digit_column image.entry.bytes.now image.entry.len width first count) out.old at out.new result }
-{
-    let mut next = at;
-    for j in 0..count {
-        next = output::put_between(out, next, 4, j, b' ');
-        next = put_byte::<BINARY>(out, next, image, width, first + j);
-    }
-    next
-}
-
-// The character of a whole byte of the image.
-fn whole_char(image: Image, index: usize) -> u8
-    requires { (index * 8 + 8 ≤ image.len) × (index < length image.bytes.now) }
-    ensures { result ≡ dump_char image.entry.bytes.now image.entry.len (index * 8) }
-{
-    printed(image.bytes[index])
-}
-
-// Stores the eight bytes of a line from byte `first` on, which are whole bytes of the image, as
-// characters. All are found before one is stored, so that the compiler can do them at once. A loop over
-// an array of eight was tried: a bindump then takes almost three times as long, and misses its bar.
-fn put_eight_chars(out: &mut [u8], at: usize, image: Image, first: usize) -> usize
-    requires inside { ((first + 8) * 8 ≤ image.len) × (first + 8 ≤ length image.bytes.now) }
-    requires room { at + 8 ≤ length out.old }
-    ensures { Writes (char_column image.entry.bytes.now image.entry.len first 8) out.old at out.new result }
-{
-    let c0 = whole_char(image, first);
-    let c1 = whole_char(image, first + 1);
-    let c2 = whole_char(image, first + 2);
-    let c3 = whole_char(image, first + 3);
-    let c4 = whole_char(image, first + 4);
-    let c5 = whole_char(image, first + 5);
-    let c6 = whole_char(image, first + 6);
-    let c7 = whole_char(image, first + 7);
-    eight_chars::put_eight(out, at, [c0, c1, c2, c3, c4, c5, c6, c7])
-}
-
-// Stores the `count` bytes of a line from byte `first` on, in digits of `width` bits.
-fn put_digits(
-    out: &mut [u8],
-    at: usize,
-    image: Image,
-    width: usize,
-    first: usize,
-    count: usize,
-) -> usize
-    requires size { (0 < width) × (width ≤ 4) × (first < 2 ^ 32) × (0 < count) × (count ≤ 64) × (image.len ≤ 8 * length image.bytes.now) }
-    requires room { at + length (digit_column image.bytes.now image.len width first count) ≤ length out.old }
-    ensures { Writes (digit_column image.entry.bytes.now image.entry.len width first count) out.old at out.new result }
-{
-    if (first + count) * 8 <= image.len {
-        if width == 1 {
-            return put_digit_column::<true>(out, at, image, 1, first, count);
-        }
-        if width == 4 {
-            return put_groups(out, at, image, first, count);
-        }
-    }
-    put_digit_column::<false>(out, at, image, width, first, count)
-}
-
-// Stores the `count` bytes of a line from byte `first` on, as characters. The eight bytes of a line of a
-// bindump are too few for a loop to do many at once.
-fn put_chars(out: &mut [u8], at: usize, image: Image, first: usize, count: usize) -> usize
-    requires { (first < 2 ^ 32) × (count ≤ 64) × (image.len ≤ 8 * length image.bytes.now) × (at + count ≤ length out.old) }
-    ensures { Writes (char_column image.entry.bytes.now image.entry.len first count) out.old at out.new result }
-{
-    if (first + count) * 8 <= image.len {
-        if count == 8 {
-            return put_eight_chars(out, at, image, first);
-        }
-        return put_whole_chars(out, at, image, first, count);
-    }
-    put_char_column(out, at, image, first, count)
 }
 
 // The length of a line of `count` bytes whose address is filled to `address` digits.
@@ -258,34 +232,26 @@ pub fn line_length(width: usize, count: usize, address: usize) -> usize
     address + gaps + count * (8 / width + 2) + 9
 }
 
-// Stores the line of `count` bytes from byte `first` on, the address filled to `address` digits.
+// Stores a line, its address filled to `address` digits.
 #[tactic(auto, using(crate::proofs::Lengths::line_written))]
-pub fn put_line(
-    out: &mut [u8],
-    at: usize,
-    image: Image,
-    width: usize,
-    count: usize,
-    address: usize,
-    first: usize,
-) -> usize
-    requires size { (0 < width) × (width ≤ 4) × (first < 2 ^ 32) × (0 < count) × (count ≤ 64) × (image.len ≤ 8 * length image.bytes.now) × (digit_count 16 first ≤ address) }
-    requires room { at + length (dump_line image.bytes.now image.len width count address first) ≤ length out.old }
-    ensures { Writes (dump_line image.entry.bytes.now image.entry.len width count address first) out.old at out.new result }
+pub fn put_line(out: &mut [u8], at: usize, line: DumpLine, address: usize) -> usize
+    requires fits { digit_count 16 line.first ≤ address }
+    requires room { at + length (dump_line line.image.bytes.now line.image.len line.width line.count address line.first) ≤ length out.old }
+    ensures { Writes (dump_line line.entry.image.bytes.now line.entry.image.len line.entry.width line.entry.count address line.entry.first) out.old at out.new result }
 {
     let mut next = output::put(out, at, b' ');
     next = numbers::put_column(
         out,
         next,
         Letters::Lower,
-        first as u64,
+        line.first as u64,
         Radix::HEX,
         b'0',
         address,
     );
     next = output::put_all(out, next, b" | ");
-    next = put_digits(out, next, image, width, first, count);
+    next = put_digits(out, next, line);
     next = output::put_all(out, next, b"| ");
-    next = put_chars(out, next, image, first, count);
+    next = put_chars(out, next, line);
     output::put_all(out, next, b" |\n")
 }

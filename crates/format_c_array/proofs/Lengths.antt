@@ -1,23 +1,22 @@
 -- The length of the array of C, which the exporter computes before it writes.
 -- Assumes nothing.
 use mathlib.Core.Path.{◌≡◌, ◌∙◌}
-use mathlib.Core.List.{List}
+use mathlib.Core.List.{List, ◌++◌}
 use Prim.Native.Nat.{ℕ, ◌+◌, ◌-◌, ◌^◌, ◌≤◌, ◌<◌}
 use native.Mathlib.Omega.{arith}
 use lib.ListN.{length, length-append}
 use Rattle.bitvec.specs.Size.{ceil_div}
 use Rattle.output.specs.Ascii.{ascii}
 use Rattle.numbers.proofs.Digits.{count_rises, count_small}
-use Rattle.byte_lines.specs.declared.LineStart.TheVariants.{Comment}
 use Rattle.byte_list.specs.Bytes.{byte_list}
-use Rattle.byte_lines.specs.Start.{address_comment, line_start}
+use Rattle.byte_lines.specs.Start.{address_comment}
 use Rattle.byte_lines.proofs.Lengths.{comment_length}
 use Rattle.format_c_array.specs.CArray.{address_width, c_array_text}
 
 -- The array of C: the list, the first comment, and the words around them.
 pub c_array_parts : (radix : ℕ) (bytes : List ℕ) (len : ℕ)
     → length (c_array_text radix bytes len)
-    ≡ length (byte_list radix (ascii ", ") (line_start (Comment (address_width len))) bytes len) + length (address_comment (address_width len) 0) + 34
+    ≡ length (byte_list radix (ascii ", ") (λ k. ascii "\n" ++ address_comment (address_width len) k) bytes len) + length (address_comment (address_width len) 0) + 34
 unfolding c_array_text
 c_array_parts radix bytes len = simp length-append (omega arith)
 

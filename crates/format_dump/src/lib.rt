@@ -2,13 +2,14 @@
 // characters, line by line. It answers a text and its length, or refusal 1, 2 or 8.
 #![tactic(auto)]
 
-ghost use Rattle.std.specs.Prelude.{◌≡◌, ◌-◌, ◌*◌, ◌≤◌, ◌<◌, length};
+ghost use Rattle.std.specs.Prelude.{◌≡◌, true, false, ◌-◌, ◌*◌, ◌≤◌, ◌<◌, length, MatchOption};
 ghost use Rattle.output.specs.Writes.{Writes};
 ghost use Rattle.outcome.specs.Outcome.{Exports};
 ghost use Rattle.numbers.specs.Digits.{digit_count};
 ghost use Rattle.format_dump.specs.Dump.{in_range, dump_lines, dump_text, dump_outcome, bindump, hexdump};
 
-use bitvec::Image;
+use bitvec::{GoodImage, Image};
+use dump_line::DumpLine;
 use outcome::{Export, Refusal};
 
 // What a dump looks like: the bits of a digit, those of a byte, and the bytes of a line.
@@ -20,7 +21,7 @@ pub struct DumpOptions {
 }
 
 impl DumpOptions {
-    // One digit for each bit, 8 bytes a line.
+    // The two presets of document 01. One digit for each bit, 8 bytes a line.
     pub const BINDUMP: DumpOptions = DumpOptions {
         digit_bits: 1,
         byte_bits: 8,
@@ -45,58 +46,91 @@ impl DumpOptions {
     }
 }
 
-// How many lines of `count` bytes there are.
-fn dump_lines(bits: usize, count: usize) -> usize
-    requires { (0 < count) × (count ≤ 64) × (bits ≤ 16777216) }
-    ensures { result ≡ dump_lines bits count }
+// How many lines of `count` bytes an image has.
+fn dump_lines(good: GoodImage, count: usize) -> usize
+    requires { (0 < count) × (count ≤ 64) }
+    ensures { result ≡ dump_lines good.entry.image.len count }
 {
+    let bits = good.image.len;
     if bits < 8 {
         return 1;
     }
     (bits + 8 * (count - 1)) / (8 * count)
 }
 
-// Stores the dump, of `lines` lines.
-fn write_dump(
-    image: Image,
+// A dump: an image, the bits of a digit, the bytes of a line, how many lines there are, and how many
+// digits an address has.
+#[derive(Clone, Copy)]
+struct Dump<'a> {
+    good: GoodImage<'a>,
     width: usize,
     count: usize,
     lines: usize,
     address: usize,
-    out: &mut [u8],
-) -> usize
-    requires size { (0 < width) × (width ≤ 4) × (0 < count) × (count ≤ 64) × (image.len ≤ 16777216) × (image.len ≤ 8 * length image.bytes.now) }
-    requires lines { (lines ≡ dump_lines image.len count) × (address ≡ digit_count 16 ((lines - 1) * count)) }
-    requires room { length (dump_text image.bytes.now image.len width count) ≤ length out.old }
-    ensures { Writes (dump_text image.entry.bytes.now image.entry.len width count) out.old 0 out.new result }
-{
-    let mut next = 0;
-    for k in 0..lines {
-        next = dump_line::put_line(out, next, image, width, count, address, k * count);
+    ghost digits: { (0 < width) × (width ≤ 4) },
+    ghost few: { (0 < count) × (count ≤ 64) },
+    ghost counted: { lines ≡ dump_lines good.image.len count },
+    ghost filled: { address ≡ digit_count 16 ((lines - 1) * count) },
+}
+
+impl<'a> Dump<'a> {
+    // The dump of an image with some options, where they are in their range.
+    #[tactic(auto, using(crate::proofs::Range::in_range_lem, crate::proofs::Lengths::lines_few))]
+    fn new(good: GoodImage<'a>, options: DumpOptions) -> Option<Dump<'a>>
+        ensures { MatchOption result (in_range options ≡ false) (λ d. (in_range options ≡ true) × (d.good ≡ good.entry) × (d.width ≡ options.digit_bits) × (d.count ≡ options.bytes_per_line)) }
+    {
+        if !DumpOptions::in_range(options) {
+            return None;
+        }
+        let count = options.bytes_per_line;
+        let lines = dump_lines(good, count);
+        Some(Dump {
+            good,
+            width: options.digit_bits,
+            count,
+            lines,
+            address: numbers::digit_count(((lines - 1) * count) as u64, 16),
+        })
     }
-    next
+
+    // The length of its text.
+    fn length(self) -> usize
+        ensures { result ≡ length (dump_text self.entry.good.image.bytes.now self.entry.good.image.len self.entry.width self.entry.count) }
+    {
+        self.lines * dump_line::line_length(self.width, self.count, self.address)
+    }
+
+    // Stores its text. A line begins at the byte that its number says.
+    fn write(self, out: &mut [u8]) -> usize
+        requires { length (dump_text self.good.image.bytes.now self.good.image.len self.width self.count) ≤ length out.old }
+        ensures { Writes (dump_text self.entry.good.image.bytes.now self.entry.good.image.len self.entry.width self.entry.count) out.old 0 out.new result }
+    {
+        let mut next = 0;
+        for k in 0..self.lines {
+            let line = DumpLine {
+                image: self.good.image,
+                width: self.width,
+                first: k * self.count,
+                count: self.count,
+            };
+            next = dump_line::put_line(out, next, line, self.address);
+        }
+        next
+    }
 }
 
 // The dump with any options.
-#[tactic(auto, using(bitvec::proofs::Size::size_good, crate::proofs::Range::in_range_lem, crate::proofs::Lengths::lines_few), unfolding(crate::specs::Dump::dump_outcome))]
+#[tactic(auto, using(outcome::proofs::Outcome::exports_text, outcome::proofs::Outcome::exports_no_room), unfolding(crate::specs::Dump::dump_outcome))]
 pub fn format_dump(image: Image, options: DumpOptions, out: &mut [u8]) -> Export
     ensures { Exports (dump_outcome image.entry.bytes.now image.entry.len options (length out.old)) result out.old out.new }
 {
-    if image.bad_size() {
-        return Err(Refusal::ImageSize);
-    }
-    if !DumpOptions::in_range(options) {
-        return Err(Refusal::OptionRange);
-    }
-    let width = options.digit_bits;
-    let count = options.bytes_per_line;
-    let lines = dump_lines(image.len, count);
-    let address = numbers::digit_count(((lines - 1) * count) as u64, 16);
-    let needed = lines * dump_line::line_length(width, count, address);
+    let good = image.good().ok_or(Refusal::ImageSize)?;
+    let dump = Dump::new(good, options).ok_or(Refusal::OptionRange)?;
+    let needed = dump.length();
     if out.len() < needed {
         return Err(Refusal::NoRoom(needed));
     }
-    Ok(write_dump(image, width, count, lines, address, out))
+    Ok(dump.write(out))
 }
 
 // One digit for each bit, 8 bytes a line.

@@ -7,28 +7,29 @@ ghost use Rattle.outcome.specs.Outcome.{Exports};
 ghost use Rattle.format_separator.specs.Separator.{separator_outcome};
 
 use bitvec::Image;
-use byte_lines::LineStart;
-use byte_list::ByteRadix;
+use byte_lines::{ByteLines, Newline};
+use byte_list::{ByteRadix, ImageBytes};
 use outcome::{Export, Refusal};
 
 // The bytes in radix 10 or 16, with a separator of at most 256 bytes and sixteen bytes a line.
-#[tactic(auto, using(bitvec::proofs::Size::size_good, outcome::proofs::Outcome::short), unfolding(bitvec::specs::Size::ceil_div, crate::specs::Separator::separator_outcome))]
+#[tactic(auto, using(outcome::proofs::Outcome::short), unfolding(crate::specs::Separator::separator_outcome))]
 pub fn format_separator(image: Image, radix: usize, separator: &[u8], out: &mut [u8]) -> Export
     ensures { Exports (separator_outcome image.entry.bytes.now image.entry.len radix separator.now (length out.old)) result out.old out.new }
 {
-    if image.bad_size() {
-        return Err(Refusal::ImageSize);
-    }
-    let Some(radix) = ByteRadix::new(radix) else {
-        return Err(Refusal::OptionRange);
-    };
+    let image = image.good().ok_or(Refusal::ImageSize)?;
+    let radix = ByteRadix::new(radix).ok_or(Refusal::OptionRange)?;
     if outcome::too_long(separator) {
         return Err(Refusal::OptionRange);
     }
-    let count = bitvec::parts(image.len, 8);
-    let needed = byte_list::list_length(image, radix, count, separator.len(), 1);
+    let bytes = ImageBytes::new(image);
+    let needed = byte_list::list_length(bytes, radix, separator.len(), 1);
     if out.len() < needed {
         return Err(Refusal::NoRoom(needed));
     }
-    Ok(byte_lines::put_list(out, 0, image, radix, separator, LineStart::Newline, count))
+    let lines = ByteLines {
+        bytes,
+        radix,
+        separator,
+    };
+    Ok(byte_lines::put_list(out, 0, lines, Newline))
 }

@@ -7,5 +7,5 @@ use Rattle.byte_lines.proofs.put_between.Goals as goal
 
 pub returns : goal.returns
 unfolding leading
-returns c =
+returns g c =
     simp (ne_eqb _ _ c.if-k-eq0.false) (writes_then c.put_text-next.ensures c.put_line_start.ensures)

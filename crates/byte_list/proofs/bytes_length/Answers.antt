@@ -8,5 +8,5 @@ use Rattle.byte_list.proofs.bytes_length.Goals as goal
 
 pub returns-in-Hex : goal.returns-in-Hex
 returns-in-Hex c =
-    let each = pieces_length _ 4 c.args.count (λ k h. hex_length _) in
+    let each = pieces_length _ 4 c.args.bytes.count (λ k h. hex_length _) in
     (rw c.in-Hex.is (sym each), omega arith)

@@ -7,4 +7,4 @@ use Rattle.byte_list.specs.Bytes.{byte_in}
 use Rattle.byte_list.proofs.decimal_length.Given as goal
 
 abbrev pub invariant-loop-k : goal.invariant-loop-k
-invariant-loop-k l = (l.k ≤ l.count) × (l.total ≡ length (pieces (λ j. byte_in 10 (byte_at l.image.bytes.now l.image.len j)) l.k)) × (l.total ≤ l.k * 8)
+invariant-loop-k l = (l.k ≤ l.bytes.count) × (l.total ≡ length (pieces (λ j. byte_in 10 (byte_at l.bytes.image.bytes.now l.bytes.image.len j)) l.k)) × (l.total ≤ l.k * 8)

@@ -1,33 +1,45 @@
 -- `byte_list::digits_length` meets its contract: the blocks and what stands behind them are all the bytes.
 -- Assumes nothing.
-use mathlib.Core.Path.{sym, ap, ◌∙◌}
-use Prim.Native.Nat.{◌*◌, ◌/◌, ◌<◌}
+use mathlib.Core.Path.{ap, ◌∙◌}
+use Prim.Native.Nat.{◌^◌}
 use native.Mathlib.Omega.{arith}
-use lib.ListN.{length, get_or, take, drop, take-append-drop}
-use Rattle.std.proofs.lemmas.List.{get_or-drop, take_all}
+use borrow.Author.Rules.{rules}
 use Rattle.std.specs.Prelude.{sum_by}
-use Rattle.std.proofs.lemmas.List.Sums.{sum_by-append}
+use Rattle.std.proofs.lemmas.Iterator.{YieldsList-from_slice, YieldsList-from_map}
+use Rattle.std.proofs.lemmas.Iterator.Adapters.{fits_from_length, at_most_from_yields_List}
+use Rattle.std.proofs.lemmas.Iterator.Consumers.{sum_by_from_yields_List}
 use Rattle.numbers.specs.Digits.{digit_count}
-use Rattle.byte_list.proofs.Lengths.{blocks_digits, decimal_small, digits_next}
+use Rattle.byte_list.proofs.Lengths.{parts_digits}
 use Rattle.byte_list.proofs.digits_length.Goals as goal
 
-pub loop-byte-preserved : goal.loop-byte-preserved
-loop-byte-preserved c =
+pub sum-front-requires-clause-fits : goal.sum-front-requires-clause-fits
+sum-front-requires-clause-fits c =
+    fits_from_length _ _ (2 ^ 32) (2 ^ 64) (at_most_from_yields_List (YieldsList-from_slice c.as_chunks.result.0.now cc) (omega arith)) c.map.ensures.closure (omega arith) (λ x r q k. search rules)
+
+pub sum-back-requires-clause-fits : goal.sum-back-requires-clause-fits
+sum-back-requires-clause-fits c =
+    fits_from_length _ _ (2 ^ 32) (2 ^ 64) (at_most_from_yields_List (YieldsList-from_slice c.as_chunks.result.1.now cc) (omega arith)) c.map-2.ensures.closure (omega arith) (λ x r q k. search rules)
+
+pub overflow_add-result : goal.overflow_add-result
+overflow_add-result c =
+    let bytes = c.args.bytes.now in
+    let blocks = c.as_chunks.result.0.now in
     let rest = c.as_chunks.result.1.now in
-    let i = c.loop-byte.byte-index in
-    let byte : get_or rest i 0 < 256 = rw (c.as_chunks.ensures.back, get_or-drop) (c.type_inv.bytes _).fits in
-    let few = decimal_small (get_or rest i 0) byte in
-    (omega (arith, digits_next rest i c.loop-byte-test.true, c.decimal_count-total.ensures), omega (arith, few, c.decimal_count-total.ensures))
+    let front = sum_by_from_yields_List (sum_by (digit_count 10)) blocks c.map.result c.sum-front.result c.sum-front.ensures.ran
+    (YieldsList-from_map _ (sum_by (digit_count 10)) (YieldsList-from_slice blocks cc) c.map.ensures.closure (λ x r q k. search rules)) in
+    let back = sum_by_from_yields_List (digit_count 10) rest c.map-2.result c.sum-back.result c.sum-back.ensures.ran
+    (YieldsList-from_map _ (digit_count 10) (YieldsList-from_slice rest cc) c.map-2.ensures.closure (λ x r q k. search rules)) in
+    let sums = parts_digits bytes c.sum-front.result c.sum-back.result (λ k h. (c.type_inv.bytes k).fits) (front ∙ ap (sum_by (sum_by (digit_count 10))) c.as_chunks.ensures.front) (back ∙ ap (sum_by (digit_count 10)) c.as_chunks.ensures.back) in
+    omega (arith, sums.0, sums.1)
 
 pub returns : goal.returns
 returns c =
     let bytes = c.args.bytes.now in
-    let n = length bytes / 64 in
     let blocks = c.as_chunks.result.0.now in
     let rest = c.as_chunks.result.1.now in
-    let front = ap (sum_by (sum_by (digit_count 10))) c.as_chunks.ensures.front ∙ blocks_digits 64 n bytes in
-    let back = ap (sum_by (digit_count 10)) c.as_chunks.ensures.back in
-    let both = sym (sum_by-append (digit_count 10) (take (n * 64) bytes) (drop (n * 64) bytes)) ∙ ap (sum_by (digit_count 10)) (take-append-drop (n * 64) bytes) in
-    let all_blocks = rw (take_all _ blocks c.loop-block-test.false) at c.loop-block.invariant.0 in
-    let all_rest = rw (take_all _ rest c.loop-byte-test.false) at c.loop-byte.invariant.0 in
-    (omega (arith, front, back, both, all_blocks, all_rest), omega (arith, c.as_chunks.ensures.front_len, c.as_chunks.ensures.back_len))
+    let front = sum_by_from_yields_List (sum_by (digit_count 10)) blocks c.map.result c.sum-front.result c.sum-front.ensures.ran
+    (YieldsList-from_map _ (sum_by (digit_count 10)) (YieldsList-from_slice blocks cc) c.map.ensures.closure (λ x r q k. search rules)) in
+    let back = sum_by_from_yields_List (digit_count 10) rest c.map-2.result c.sum-back.result c.sum-back.ensures.ran
+    (YieldsList-from_map _ (digit_count 10) (YieldsList-from_slice rest cc) c.map-2.ensures.closure (λ x r q k. search rules)) in
+    let sums = parts_digits bytes c.sum-front.result c.sum-back.result (λ k h. (c.type_inv.bytes k).fits) (front ∙ ap (sum_by (sum_by (digit_count 10))) c.as_chunks.ensures.front) (back ∙ ap (sum_by (digit_count 10)) c.as_chunks.ensures.back) in
+    (sums.0, omega (arith, sums.0, sums.1))

@@ -7,9 +7,9 @@ use Rattle.digits.specs.Run.{digit_at}
 use Rattle.dump_line.specs.Line.{dump_digit}
 use Rattle.dump_line.proofs.dump_digit.Goals as goal
 
-pub returns-then-image-first : goal.returns-then-image-first
+pub returns-then-image-from : goal.returns-then-image-from
 unfolding dump_digit
-returns-then-image-first c = simp (le-ltb _ _ c.if-image-first.true)
+returns-then-image-from c = simp (le-ltb _ _ c.if-image-from.true)
 
 pub digit_char-requires : goal.digit_char-requires
 digit_char-requires c =
@@ -19,4 +19,4 @@ digit_char-requires c =
 pub returns : goal.returns
 unfolding digit_at dump_digit
 returns c =
-    simp (lt-ltb _ _ c.if-image-first.false) (rw (← c.read_bits-digit.ensures) c.digit_char.ensures)
+    simp (lt-ltb _ _ c.if-image-from.false) (rw (← c.read_bits-digit.ensures) c.digit_char.ensures)

@@ -10,20 +10,20 @@ use Rattle.dump_line.proofs.Lengths.{gap, line_byte, byte_length}
 use Rattle.dump_line.proofs.put_digit_column.Goals as goal
 
 pub loop-j-init : goal.loop-j-init
-loop-j-init g c = (rw joined_none (writes_nothing _ _), refl)
+loop-j-init c = (rw joined_none (writes_nothing _ _), refl)
 
 pub put_between-next-requires : goal.put_between-next-requires
-put_between-next-requires g c =
-    let a = c.args in
+put_between-next-requires c =
+    let a = c.args.line in
     let room = joined_room gap (line_byte a.image.bytes.now a.image.len a.width a.first) c.loop-j.j a.count (search rules) in
-    (omega arith, omega (arith, room, c.loop-j.invariant.0.next, c.requires.room))
+    (omega arith, omega (arith, room, c.loop-j.invariant.0.next, c.requires))
 
-pub put_byte-next-requires-clause-room : goal.put_byte-next-requires-clause-room
-put_byte-next-requires-clause-room g c =
-    let a = c.args in
+pub put_dump_byte-next-requires : goal.put_dump_byte-next-requires
+put_dump_byte-next-requires c =
+    let a = c.args.line in
     let room = joined_room gap (line_byte a.image.bytes.now a.image.len a.width a.first) c.loop-j.j a.count (search rules) in
-    omega (arith, room, c.loop-j.invariant.0.next, c.requires.room, c.put_between-next.ensures.next, byte_length a.image.bytes.now a.image.len a.width ((a.first + c.loop-j.j) * 8))
+    omega (arith, room, c.loop-j.invariant.0.next, c.requires, c.put_between-next.ensures.next, byte_length a.image.bytes.now a.image.len a.width ((a.first + c.loop-j.j) * 8))
 
 pub loop-j-preserved : goal.loop-j-preserved
-loop-j-preserved g c =
-    (rw joined_next (writes_then c.loop-j.invariant.0 (writes_then c.put_between-next.ensures c.put_byte-next.ensures)), search rules)
+loop-j-preserved c =
+    (rw joined_next (writes_then c.loop-j.invariant.0 (writes_then c.put_between-next.ensures c.put_dump_byte-next.ensures)), search rules)

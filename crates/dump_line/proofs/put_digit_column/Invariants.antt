@@ -6,4 +6,4 @@ use Rattle.dump_line.proofs.Lengths.{gap, line_byte}
 use Rattle.dump_line.proofs.put_digit_column.Given as goal
 
 abbrev pub invariant-loop-j : goal.invariant-loop-j
-invariant-loop-j g l = Writes (joined gap (line_byte l.image.bytes.now l.image.len l.width l.first) l.j) l.initial.out l.at l.out l.next × (length l.out ≡ length l.initial.out)
+invariant-loop-j l = Writes (joined gap (line_byte l.line.image.bytes.now l.line.image.len l.line.width l.line.first) l.j) l.initial.out l.at l.out l.next × (length l.out ≡ length l.initial.out)

@@ -15,12 +15,12 @@ loop-j-init c = (search rules, rw pieces_none (writes_nothing _ _), refl)
 pub loop-j-preserved : goal.loop-j-preserved
 loop-j-preserved c = (
   search rules,
-  rw pieces_next (writes_then c.loop-j.invariant.1 (rw (← c.dump_digit-c.ensures) c.put-next.ensures)),
+  rw pieces_next (writes_then c.loop-j.invariant.1 (rw (← (rw c.plus.ensures at c.dump_digit-c.ensures)) c.put-next.ensures)),
   search rules,
 )
 
 pub returns : goal.returns
 unfolding dump_byte
 returns c =
-    let done : c.loop-j.j ≡ 8 / c.args.width = omega arith in
+    let done : c.loop-j.j ≡ 8 / c.args.line.width = omega arith in
     writes_then (rw done at c.loop-j.invariant.1) c.put.ensures

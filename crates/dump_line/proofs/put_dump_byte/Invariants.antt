@@ -12,4 +12,4 @@ abbrev digit : List ℕ → ℕ → ℕ → ℕ → ℕ → List ℕ
 digit bytes len w i j = dump_digit bytes len w (i + j * w) ∷ []
 
 abbrev pub invariant-loop-j : goal.invariant-loop-j
-invariant-loop-j l = (l.next ≡ l.at + l.j) × Writes (pieces (digit l.image.bytes.now l.image.len l.width l.from.0) l.j) l.initial.out l.at l.out l.next × (length l.out ≡ length l.initial.out)
+invariant-loop-j l = (l.next ≡ l.at + l.j) × Writes (pieces (digit l.line.image.bytes.now l.line.image.len l.line.width l.from.0) l.j) l.initial.out l.at l.out l.next × (length l.out ≡ length l.initial.out)

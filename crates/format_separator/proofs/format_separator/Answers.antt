@@ -4,20 +4,18 @@ use mathlib.Core.Path.{refl}
 use native.Mathlib.Omega.{arith}
 use Rattle.std.proofs.lemmas.Grind.{common_steps}
 use Rattle.outcome.proofs.Outcome.{exports_text, exports_no_room}
-use Rattle.byte_lines.specs.declared.LineStart.TheVariants.{Newline}
-use Rattle.byte_lines.specs.Start.{line_start}
-use Rattle.byte_lines.proofs.Lengths.{newline_length}
+use Rattle.output.specs.Ascii.{ascii}
 use Rattle.format_separator.specs.Separator.{separator_text, separator_outcome}
 use Rattle.format_separator.proofs.format_separator.Goals as goal
 
 pub returns-then-out-needed : goal.returns-then-out-needed
 unfolding separator_outcome separator_text
 returns-then-out-needed c =
-    let measured = c.list_length-needed.ensures.0 c.args.separator.now (line_start Newline) refl (λ k h. newline_length k) in
+    let measured = c.list_length-needed.ensures.length c.args.separator.now (λ k. ascii "\n") refl (λ k h. refl) in
     grind (arith, common_steps, exports_no_room)
 
 pub returns : goal.returns
 unfolding separator_outcome separator_text
 returns c =
-    let measured = c.list_length-needed.ensures.0 c.args.separator.now (line_start Newline) refl (λ k h. newline_length k) in
+    let measured = c.list_length-needed.ensures.length c.args.separator.now (λ k. ascii "\n") refl (λ k h. refl) in
     grind (arith, common_steps, exports_text)
