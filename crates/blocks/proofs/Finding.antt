@@ -12,9 +12,9 @@ use Rattle.std.specs.Prelude.{Ok, Err}
 use Rattle.outcome.specs.declared.Refusal.{Refusal}
 use Rattle.outcome.specs.declared.Refusal.TheVariants.{ImageSize, OptionRange, SpanRange, EmptyImage, AddressRange, SourceText, SpanFault, NoRoom}
 use Rattle.outcome.specs.Outcome.{Answer, refusal_of, answer_of}
-use Rattle.span_range.specs.Range.{long_list, fault_at, spans_checked}
+use Rattle.span_range.specs.Range.{long_list, fault_at, spans_checked, IsCause}
 use Rattle.blocks.specs.Blocks.{Block, Finding, found, refused, blocks_of, blocks_found, Finds, Stores}
-use Rattle.span_range.proofs.Good.{short_list}
+use Rattle.span_range.proofs.Good.{short_list, checked_refused}
 use Rattle.blocks.proofs.Running.{blocks_few}
 
 -- A refusal's number is not 0.
@@ -105,3 +105,8 @@ unfolding blocks_found
 finds_no_room offsets sizes offsets₀ sizes₀ e g n m r =
     simp (e, g, le-ltb (length offsets) (length offsets) (omega arith), ← m, r)
     record { answered = refl; offsets = refl; sizes = refl }
+
+-- Spans that are refused give no blocks.
+pub finds_refused : (offsets sizes offsets₀ sizes₀ : List ℕ) (r : Refusal) → IsCause offsets sizes r → Finds (blocks_found offsets sizes (length offsets₀) (length sizes₀)) (Err r) offsets₀ offsets₀ sizes₀ sizes₀
+unfolding blocks_found
+finds_refused offsets sizes offsets₀ sizes₀ r c = rw (checked_refused refused _ offsets sizes r c) record { answered = refl; offsets = refl; sizes = refl }

@@ -3,44 +3,33 @@
 // absent one, and the sizes. The blocks are given as two slices too, as document 01 lends them.
 #![tactic(auto)]
 
-ghost use Rattle.std.specs.Prelude.{◌≡◌, false, ◌≢◌, [], ◌≤◌, ◌<◌, length};
-ghost use Rattle.std.proofs.lemmas.List.Edits.{sets};
+ghost use Rattle.std.specs.Prelude.{◌≡◌, ◌≢◌, [], ◌≤◌, ◌<◌, length};
 ghost use Rattle.ordering.specs.Order.{in_order};
 ghost use Rattle.adjoining.specs.Adjoin.{Adjoin};
-ghost use Rattle.span_range.specs.Range.{long_list, fault_at};
 ghost use Rattle.blocks.specs.Blocks.{closed, blocks_of, blocks_found, Stores, Finds};
 
 use adjoining::all_adjoin;
 use ordering::{ABSENT, SpanList};
 use outcome::Refusal;
-use span_order::{order, order_within};
-use span_range::{fault_at, long_list};
+use span_range::GoodSpans;
 
-// A list in its range: at most 4,096 spans, none of them bad.
+// A block: so many bits from an offset on.
 #[derive(Clone, Copy)]
-struct GoodSpans<'a> {
-    list: SpanList<'a>,
-    ghost few: { length list.offsets.now ≤ 4096 },
-    ghost short: { long_list list.offsets.now list.sizes.now ≡ false },
-    ghost good: { fault_at list.offsets.now list.sizes.now ≡ length list.offsets.now },
+struct Block {
+    offset: u32,
+    size: u32,
 }
 
 // Closes a block: it is stored behind the others, unless its size is 0.
-fn close(
-    origin: u32,
-    size: u32,
-    count: usize,
-    block_offsets: &mut [u32],
-    block_sizes: &mut [u32],
-) -> usize
-    requires { size ≢ 0 → (count < length block_offsets.old) × (count < length block_sizes.old) }
-    ensures { Stores (closed origin size []) count block_offsets.old block_offsets.new block_sizes.old block_sizes.new result }
+fn close(block: Block, count: usize, block_offsets: &mut [u32], block_sizes: &mut [u32]) -> usize
+    requires { block.size ≢ 0 → (count < length block_offsets.old) × (count < length block_sizes.old) }
+    ensures { Stores (closed block.offset block.size []) count block_offsets.old block_offsets.new block_sizes.old block_sizes.new result }
 {
-    if size == 0 {
+    if block.size == 0 {
         return count;
     }
-    block_offsets[count] = origin;
-    block_sizes[count] = size;
+    block_offsets[count] = block.offset;
+    block_sizes[count] = block.size;
     count + 1
 }
 
@@ -60,31 +49,19 @@ fn close_all(
     ensures { Stores (blocks_of spans.entry.list.offsets.now spans.entry.list.sizes.now) 0 block_offsets.old block_offsets.new block_sizes.old block_sizes.new result }
 {
     let SpanList { offsets, sizes } = spans.list;
-    let mut origin: u32 = 0;
-    let mut size: u32 = 0;
+    let mut block = Block { offset: 0, size: 0 };
     let mut count: usize = 0;
     for &place in places {
         let offset = offsets[place as usize];
-        if offset == origin + size {
-            size += sizes[place as usize];
+        let size = sizes[place as usize];
+        if offset == block.offset + block.size {
+            block.size += size;
         } else if offset != ABSENT {
-            count = close(origin, size, count, block_offsets, block_sizes);
-            origin = offset;
-            size = sizes[place as usize];
+            count = close(block, count, block_offsets, block_sizes);
+            block = Block { offset, size };
         }
     }
-    close(origin, size, count, block_offsets, block_sizes)
-}
-
-// The places of at most N spans, in order. Few are not sorted in the room that many need.
-fn put_order<const N: usize>(offsets: &[u32], places: &mut [u32])
-    requires { (length offsets.now ≤ N) × (N ≤ 4096) × (length offsets.now ≤ length places.old) }
-    ensures { places.new ≡ sets places.old 0 (in_order offsets.now) }
-{
-    if N <= 64 {
-        return order_within::<N>(offsets, places);
-    }
-    order(offsets, places);
+    close(block, count, block_offsets, block_sizes)
 }
 
 // Orders at most N good spans and makes their blocks: the smaller N is, the less memory is set to zero.
@@ -98,8 +75,8 @@ fn find_ordered<const N: usize>(
     ensures { Stores (blocks_of spans.entry.list.offsets.now spans.entry.list.sizes.now) 0 block_offsets.old block_offsets.new block_sizes.old block_sizes.new result }
 {
     let mut places = [0u32; N];
-    put_order::<N>(spans.list.offsets, &mut places);
-    let ordered = &places[..spans.list.offsets.len()];
+    span_order::order_within::<N>(spans.list.offsets, &mut places);
+    let ordered = &places[..spans.list.len()];
     close_all(spans, ordered, block_offsets, block_sizes)
 }
 
@@ -111,9 +88,9 @@ fn one_block(spans: GoodSpans, block_offsets: &mut [u32], block_sizes: &mut [u32
 {
     let SpanList { offsets, sizes } = spans.list;
     let last = offsets.len() - 1;
-    let origin = offsets[0];
-    let size = offsets[last] + sizes[last] - origin;
-    close(origin, size, 0, block_offsets, block_sizes)
+    let offset = offsets[0];
+    let size = offsets[last] + sizes[last] - offset;
+    close(Block { offset, size }, 0, block_offsets, block_sizes)
 }
 
 // Makes the blocks of good spans: those that adjoin need not be ordered.
@@ -124,7 +101,7 @@ fn find_blocks(spans: GoodSpans, block_offsets: &mut [u32], block_sizes: &mut [u
     if all_adjoin(spans.list) {
         return one_block(spans, block_offsets, block_sizes);
     }
-    if spans.list.offsets.len() <= 64 {
+    if spans.list.len() <= 64 {
         return find_ordered::<64>(spans, block_offsets, block_sizes);
     }
     find_ordered::<4096>(spans, block_offsets, block_sizes)
@@ -160,7 +137,7 @@ fn good_blocks(
 ) -> Result<usize, Refusal>
     ensures { Finds (blocks_found spans.entry.list.offsets.now spans.entry.list.sizes.now (length block_offsets.old) (length block_sizes.old)) result block_offsets.old block_offsets.new block_sizes.old block_sizes.new }
 {
-    let n = spans.list.offsets.len();
+    let n = spans.list.len();
     if n <= block_offsets.len() && n <= block_sizes.len() {
         return Ok(find_blocks(spans, block_offsets, block_sizes));
     }
@@ -172,7 +149,6 @@ fn good_blocks(
 
 // The blocks of the lent spans, their offsets and sizes at the fronts of two slices: how many there
 // are, or refusal 3 with its place, or refusal 8 with how many there are.
-#[tactic(auto, using(span_range::proofs::Good::short_list), unfolding(crate::specs::Blocks::blocks_found))]
 pub fn get_blocks(
     offsets: &[u32],
     sizes: &[u32],
@@ -181,12 +157,6 @@ pub fn get_blocks(
 ) -> Result<usize, Refusal>
     ensures { Finds (blocks_found offsets.now sizes.now (length block_offsets.old) (length block_sizes.old)) result block_offsets.old block_offsets.new block_sizes.old block_sizes.new }
 {
-    if long_list(offsets, sizes) {
-        return Err(Refusal::SpanRange(4096));
-    }
-    let list = SpanList { offsets, sizes };
-    if let Some(place) = fault_at(list) {
-        return Err(Refusal::SpanRange(place));
-    }
-    good_blocks(GoodSpans { list }, block_offsets, block_sizes)
+    let spans = GoodSpans::new(offsets, sizes)?;
+    good_blocks(spans, block_offsets, block_sizes)
 }

@@ -1,6 +1,6 @@
 -- Laws of the bits of several numbers together: none of the numbers is above them.
 -- Assumes nothing.
-use mathlib.Core.Path.{◌≡◌, refl, sym, ◌∙◌}
+use mathlib.Core.Path.{◌≡◌, refl, sym}
 use mathlib.Core.Bool.{Bool, true, false, not, ◌&&◌}
 use mathlib.Core.List.{List}
 use Prim.Native.Nat.{ℕ, ◌+◌, ◌≤◌, ◌<◌}
@@ -10,6 +10,9 @@ use lib.Dec.{eqb}
 use lib.ListN.{length, get_or}
 use borrow.Author.Count.{below_more}
 use borrow.Author.Tests.{le-ltb}
+use Rattle.std.specs.Prelude.{Option, Some, None, MatchOption}
+use Rattle.std.specs.List.{zip, AllWithin, HoldsAt}
+use Rattle.std.proofs.lemmas.Slice.Zip.{length-zip, get_or-zip}
 use Rattle.bitvec.specs.Size.{max_bits}
 use Rattle.ordering.specs.Order.{absent}
 use Rattle.ordering.proofs.Lists.{first_all, first_at}
@@ -45,13 +48,25 @@ all_good offsets sizes r most h =
     let small : get_or offsets k 0 + get_or sizes k 0 ≤ max_bits = omega (arith, (most k l).0, (most k l).1) in
     rw (le-ltb max_bits (get_or offsets k 0 + get_or sizes k 0) small) (none (not (eqb (get_or offsets k 0) absent))))
 
--- The first bad span, and none.
-pub fault_here : (offsets sizes : List ℕ) (p k : ℕ) → p ≡ k → k < length offsets → ((j : ℕ) → j < k → bad_span (get_or offsets j 0) (get_or sizes j 0) ≡ false)
-    → bad_span (get_or offsets k 0) (get_or sizes k 0) ≡ true → (p < length offsets) × (p ≡ fault_at offsets sizes)
+-- The first pair of an offset and a size that is bad, or none, is the first bad span.
+pub fault_found : (offsets sizes : List ℕ) → length sizes ≡ length offsets → (r : Option ℕ)
+    → MatchOption r
+    (AllWithin (λ p. bad_span p.0 p.1 ≡ false) (zip offsets sizes) 0 (length (zip offsets sizes)))
+    (λ i. (i < length (zip offsets sizes)) × HoldsAt (λ p. bad_span p.0 p.1 ≡ true) (zip offsets sizes) i × AllWithin (λ p. bad_span p.0 p.1 ≡ false) (zip offsets sizes) 0 i)
+    → MatchOption r (fault_at offsets sizes ≡ length offsets) (λ p. (p < length offsets) × (p ≡ fault_at offsets sizes))
 unfolding fault_at
-fault_here offsets sizes p k e h before bad = (omega arith, e ∙ sym (first_at _ (length offsets) k h before bad))
+fault_found offsets sizes e r h = go r h
+  where
+    Bad : ℕ × ℕ → Bool → Type 0
+    Bad p t = bad_span p.0 p.1 ≡ t
 
-pub fault_none : (offsets sizes : List ℕ) (k : ℕ) → length offsets ≤ k → ((j : ℕ) → j < k → bad_span (get_or offsets j 0) (get_or sizes j 0) ≡ false)
-    → fault_at offsets sizes ≡ length offsets
-unfolding fault_at
-fault_none offsets sizes k h before = first_all _ (length offsets) (λ j l. before j (omega arith))
+    at : (t : Bool) (k : ℕ) → k < length offsets → Bad (get_or (zip offsets sizes) k (0, 0)) t → bad_span (get_or offsets k 0) (get_or sizes k 0) ≡ t
+    at t k l b = rw (get_or-zip offsets sizes k (0, 0) l (omega (arith, e))) at b
+
+    go : (r : Option ℕ) → MatchOption r (AllWithin (λ p. Bad p false) (zip offsets sizes) 0 (length (zip offsets sizes)))
+        (λ i. (i < length (zip offsets sizes)) × HoldsAt (λ p. Bad p true) (zip offsets sizes) i × AllWithin (λ p. Bad p false) (zip offsets sizes) 0 i)
+        → MatchOption r (fault_at offsets sizes ≡ length offsets) (λ p. (p < length offsets) × (p ≡ fault_at offsets sizes))
+    go None h = first_all _ (length offsets) (λ k l. at false k l (h k (0, 0) (omega arith) (omega (arith, e, length-zip offsets sizes))))
+    go (Some i) h =
+        let here : i < length offsets = omega (arith, h.0, length-zip offsets sizes) in
+        (here, sym (first_at _ (length offsets) i here (λ k l. at false k (omega arith) (h.2 k (0, 0) (omega arith) l)) (at true i here (h.1 (0, 0)))))

@@ -1,5 +1,7 @@
 -- The range of a span list: refusal 3 of Intel HEX and of the listing (document 01, "When an export is refused").
-use Rattle.std.specs.Prelude.{Bool, cond, not, ◌||◌, ◌&&◌, List, ℕ, ◌+◌, eqb, ltb, length, get_or}
+use Rattle.std.specs.Prelude.{◌≡◌, Bool, cond, not, ◌||◌, ◌&&◌, List, ℕ, ◌+◌, ◌<◌, eqb, ltb, length, get_or, MatchBool}
+use Rattle.outcome.specs.declared.Refusal.{Refusal}
+use Rattle.outcome.specs.declared.Refusal.TheVariants.{SpanRange}
 use Rattle.bitvec.specs.Size.{max_bits}
 use Rattle.ordering.specs.Lists.{first}
 use Rattle.ordering.specs.Order.{absent}
@@ -20,3 +22,10 @@ abbrev pub spans_checked : {A : Type 0} → (ℕ → ℕ → A) → List ℕ →
 spans_checked refuse offsets sizes good =
     cond (long_list offsets sizes) (refuse 3 4096)
     (cond (ltb (fault_at offsets sizes) (length offsets)) (refuse 3 (fault_at offsets sizes)) good)
+
+-- The refusal of spans that are not good: its place is 4,096 where the list is long, and else that of the first bad span.
+abbrev pub IsCause : List ℕ → List ℕ → Refusal → Type 0
+IsCause offsets sizes r =
+    MatchBool (long_list offsets sizes)
+    (r ≡ SpanRange 4096)
+    ((fault_at offsets sizes < length offsets) × (r ≡ SpanRange (fault_at offsets sizes)))

@@ -2,25 +2,45 @@
 // an absent one, and the sizes: refusal 3 of document 01.
 #![tactic(auto)]
 
-ghost use Rattle.std.specs.Prelude.{◌≡◌, ℕ, ◌<◌, length, MatchOption};
+ghost use Rattle.std.specs.Prelude.{◌≡◌, false, ℕ, ◌≤◌, ◌<◌, length, MatchOption, MatchResult};
 ghost use Rattle.span_range.specs.AtMost.{AtMost};
-ghost use Rattle.span_range.specs.Range.{long_list, bad_span, fault_at};
+ghost use Rattle.span_range.specs.Range.{long_list, bad_span, fault_at, IsCause};
 
 use bitvec::MAX_BITS;
 use ordering::{ABSENT, SpanList};
+use outcome::Refusal;
 
 // Half of the largest image: where no offset and no size is as large, no span ends behind the image.
 const HALF_LIMIT: u32 = 8388608;
 
-// Whether the list is long, the first cause of refusal 3.
-#[tactic(auto, unfolding(crate::specs::Range::long_list))]
-pub fn long_list(offsets: &[u32], sizes: &[u32]) -> bool
-    ensures { result ≡ long_list offsets.now sizes.now }
-{
-    4096 < offsets.len() || offsets.len() != sizes.len()
+// A list in its range: at most 4,096 spans, none of them bad.
+#[derive(Clone, Copy)]
+pub struct GoodSpans<'a> {
+    pub list: SpanList<'a>,
+    pub ghost few: { length list.offsets.now ≤ 4096 },
+    pub ghost short: { long_list list.offsets.now list.sizes.now ≡ false },
+    pub ghost good: { fault_at list.offsets.now list.sizes.now ≡ length list.offsets.now },
 }
 
-// Whether a span is bad, the other cause.
+impl<'a> GoodSpans<'a> {
+    // The lent spans, where they are in their range, or refusal 3. Its place is that of the first bad
+    // span, or 4,096, which document 01 returns for a list that is long or of unequal slices.
+    #[tactic(auto, unfolding(crate::specs::Range::long_list))]
+    pub fn new(offsets: &'a [u32], sizes: &'a [u32]) -> Result<GoodSpans<'a>, Refusal>
+        ensures { MatchResult result (λ s. (s.list.offsets.now ≡ offsets.now) × (s.list.sizes.now ≡ sizes.now)) (λ e. IsCause offsets.now sizes.now e) }
+    {
+        let list = match SpanList::new(offsets, sizes) {
+            Some(list) if list.len() <= 4096 => list,
+            _ => return Err(Refusal::SpanRange(4096)),
+        };
+        match fault_at(list) {
+            Some(place) => Err(Refusal::SpanRange(place)),
+            None => Ok(GoodSpans { list }),
+        }
+    }
+}
+
+// Whether a span is bad, the second cause.
 #[tactic(auto, unfolding(crate::specs::Range::bad_span))]
 fn bad_span(offset: u32, size: u32) -> bool
     ensures { result ≡ bad_span offset size }
@@ -44,13 +64,11 @@ pub fn joined(spans: SpanList<'_>) -> u32
 fn first_fault(spans: SpanList<'_>) -> Option<usize>
     ensures { MatchOption result (fault_at spans.entry.offsets.now spans.entry.sizes.now ≡ length spans.entry.offsets.now) (λ p. (p < length spans.entry.offsets.now) × (p ≡ fault_at spans.entry.offsets.now spans.entry.sizes.now)) }
 {
-    // Tried: zip with the sizes under enumerate, whose proof did not close.
-    for (p, &offset) in spans.offsets.iter().enumerate() {
-        if bad_span(offset, spans.sizes[p]) {
-            return Some(p);
-        }
-    }
-    None
+    spans
+        .offsets
+        .iter()
+        .zip(spans.sizes)
+        .position(|(&offset, &size)| bad_span(offset, size))
 }
 
 // The same: where no offset and no size is half of the limit or more, no span need be looked at alone.

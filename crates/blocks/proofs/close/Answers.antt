@@ -6,10 +6,10 @@ use borrow.Author.Tests.{eq-eqb, ne_eqb}
 use Rattle.blocks.specs.Blocks.{closed}
 use Rattle.blocks.proofs.close.Goals as goal
 
-pub returns-then-size-eq0 : goal.returns-then-size-eq0
+pub returns-then-block-eq0 : goal.returns-then-block-eq0
 unfolding closed
-returns-then-size-eq0 c = rw (eq-eqb _ _ c.if-size-eq0.true) record { counted = omega arith; offsets = refl; sizes = refl }
+returns-then-block-eq0 c = rw (eq-eqb _ _ c.if-block-eq0.true) record { counted = omega arith; offsets = refl; sizes = refl }
 
 pub returns : goal.returns
 unfolding closed
-returns c = rw (ne_eqb _ _ c.if-size-eq0.false) record { counted = refl; offsets = refl; sizes = refl }
+returns c = rw (ne_eqb _ _ c.if-block-eq0.false) record { counted = refl; offsets = refl; sizes = refl }

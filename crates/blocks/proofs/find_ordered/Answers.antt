@@ -11,5 +11,5 @@ pub close_all-requires-clause-ordered : goal.close_all-requires-clause-ordered
 close_all-requires-clause-ordered g c =
     let a = c.args in
     let n = in_order_length a.spans.list.offsets.now in
-    rw c.put_order.ensures
+    rw (c.len.ensures, c.order_within.ensures)
     (sets_front _ (in_order a.spans.list.offsets.now) (length a.spans.list.offsets.now) (omega (arith, c.requires.few, length-replicate {A = ℕ} g.row.N 0, n)) (sym n))

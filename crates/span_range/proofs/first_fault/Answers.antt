@@ -1,12 +1,16 @@
--- `span_range::first_fault` meets its contract: no span before place p is bad.
+-- `span_range::first_fault` meets its contract: the first pair of an offset and a size that is bad.
 -- Assumes nothing.
-use Rattle.std.proofs.Common.{refl, sym, ◌∙◌, arith}
-use Rattle.span_range.proofs.Bits.{fault_here, fault_none}
+use Rattle.std.proofs.Common.{◌≡◌, true, false, rules, tests}
+use Rattle.std.proofs.lemmas.Iterator.{YieldsList-from_slice, YieldsList-from_zip, IsFirst-from_position}
+use Rattle.span_range.specs.Range.{bad_span}
+use Rattle.span_range.proofs.Bits.{fault_found}
 use Rattle.span_range.proofs.first_fault.Goals as goal
 
-pub returns-then-bad_span : goal.returns-then-bad_span
-returns-then-bad_span c =
-    fault_here c.args.spans.offsets.now c.args.spans.sizes.now c.loop-p.p c.loop-p.p refl (omega arith) c.loop-p.invariant (sym c.bad_span.ensures ∙ c.if-bad_span.true)
-
 pub returns : goal.returns
-returns c = fault_none c.args.spans.offsets.now c.args.spans.sizes.now c.loop-p.p (omega arith) c.loop-p.invariant
+returns c =
+    let a = c.args.spans in
+    fault_found a.offsets.now a.sizes.now a.same_length c.position.result
+    (IsFirst-from_position c.position.new.self _ c.position.result (λ p. bad_span p.0 p.1 ≡ true) (λ p. bad_span p.0 p.1 ≡ false) c.position.ensures.ran
+    (YieldsList-from_zip (YieldsList-from_slice a.offsets.now (cc)) (YieldsList-from_slice a.sizes.now (cc)))
+    (λ x q k. search (rules, tests))
+    (λ x q k. search (rules, tests)))
