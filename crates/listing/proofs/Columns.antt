@@ -1,6 +1,6 @@
 -- Laws of the listing's options and of the widths of its columns.
 -- Assumes nothing.
-use mathlib.Core.Path.{◌≡◌, refl, sym, ap, ◌∙◌}
+use mathlib.Core.Path.{◌≡◌, refl, ap, ◌∙◌}
 use mathlib.Core.Bool.{Bool, true, false, ◌||◌}
 use mathlib.Core.List.{List, ◌++◌}
 use mathlib.Core.Logic.{◌≢◌}
@@ -27,9 +27,9 @@ use Rattle.listing.specs.declared.Widths.{Widths}
 use Rattle.listing.specs.Listing.{out_of_range, bad_annotated, content_digits, content_need, addr_title, wider, widths_of, at_right, heading}
 
 -- The options are bad where one of them is, and are not where none is.
-pub bad_base : (o : FormatAnnotatedOptions) → 0 ≡ base_bits o.base → bad_annotated o ≡ true
+pub bad_base : (o : FormatAnnotatedOptions) → base_bits o.base ≡ 0 → bad_annotated o ≡ true
 unfolding bad_annotated
-bad_base o e = simp (eq-eqb (base_bits o.base) 0 (sym e))
+bad_base o e = simp (eq-eqb (base_bits o.base) 0 e)
 
 pub bad_other : (o : FormatAnnotatedOptions) → out_of_range o ≡ true → bad_annotated o ≡ true
 unfolding bad_annotated

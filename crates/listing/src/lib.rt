@@ -11,7 +11,7 @@ ghost use Rattle.numbers.specs.Digits.{digit_count, padded};
 ghost use Rattle.ordering.specs.Order.{absent, offset_from};
 ghost use Rattle.listing.specs.Listing.{lent, location_from, unequal, Narrow, out_of_range, bad_annotated, content_need, addr_title, wider, widths_of, heading};
 
-use numbers::{Letters, Radix};
+use numbers::{DigitWidth, Letters, Radix};
 use ordering::SpanList;
 use sources::NO_LOCATION;
 
@@ -126,15 +126,15 @@ pub struct FormatAnnotatedOptions {
     pub display_labels: u8,
 }
 
-// Options that are in their range, with the bits of a digit and the radix of the addresses.
+// Options that are in their range, with the width of a digit and the radix of the addresses.
 #[derive(Clone, Copy)]
 pub struct ListingOptions {
     pub given: FormatAnnotatedOptions,
-    pub width: usize,
+    pub width: DigitWidth,
     pub radix: Radix,
     pub ghost in_range: { bad_annotated given ≡ false },
-    pub ghost bits: { width ≡ base_bits given.base },
-    pub ghost few: { (0 < width) × (width ≤ 5) },
+    pub ghost bits: { width.bits ≡ base_bits given.base },
+    pub ghost some: { 0 < width.bits },
     pub ghost group: { (0 < given.digits_per_group) × (given.digits_per_group ≤ 64) },
     pub ghost addresses: { radix.value ≡ given.addr_base },
 }
@@ -190,7 +190,7 @@ impl ListingOptions {
         ensures { (result ≡ content_need self.given size) × (result ≤ 324) }
     {
         let group = self.given.digits_per_group;
-        let digits = bitvec::parts(size as usize, self.width);
+        let digits = bitvec::parts(size as usize, self.width.bits);
         let wide = digits + digits / group;
         if wide < 2 || (group + 1) * 5 < wide {
             return 0;
