@@ -1,4 +1,4 @@
--- `listing_lines::put_line` meets its contract: one writer after another.
+-- `listing_lines::SpanLine::put` meets its contract: one writer after another.
 -- Assumes nothing.
 use mathlib.Core.Path.{◌≡◌}
 use mathlib.Core.List.{List}
@@ -13,7 +13,7 @@ use Rattle.listing.specs.declared.FormatAnnotatedOptions.{FormatAnnotatedOptions
 use Rattle.listing.specs.declared.Widths.{Widths}
 use Rattle.listing.specs.Listing.{contents, position, at_right, at_left, line_text}
 use Rattle.listing_lines.proofs.Lines.{at_left_length, line_parts}
-use Rattle.listing_lines.proofs.put_line.Goals as goal
+use Rattle.listing_lines.proofs.SpanLine.put.Goals as goal
 
 -- where there is room for the line there is for its parts
 fits : (o : FormatAnnotatedOptions) (w : Widths) (bytes : List ℕ) (len offset size address : ℕ) (excerpt : List ℕ) (at room : ℕ)
@@ -30,50 +30,50 @@ wide o width address = omega (arith, padded_length 32 width (number_text Lower o
 pub put_position-next-requires : goal.put_position-next-requires
 put_position-next-requires c =
     let a = c.args in
-    let room = fits a.options.given a.widths a.image.bytes.now a.image.len a.span.offset a.span.size a.span.addr a.excerpt.now _ _ c.requires.1 in
-    (c.requires.0.byte_fits, c.requires.0.bit_fits, omega arith)
+    let room = fits a.self.layout.options.given a.self.layout.widths a.image.bytes.now a.image.len _ a.self.span.size a.self.span.addr a.excerpt.now _ _ c.requires in
+    omega arith
 
 pub put_all-next-requires : goal.put_all-next-requires
 put_all-next-requires c =
     let a = c.args in
-    let room = fits a.options.given a.widths a.image.bytes.now a.image.len a.span.offset a.span.size a.span.addr a.excerpt.now _ _ c.requires.1 in
+    let room = fits a.self.layout.options.given a.self.layout.widths a.image.bytes.now a.image.len _ a.self.span.size a.self.span.addr a.excerpt.now _ _ c.requires in
     omega arith
 
 pub put_address-next-requires : goal.put_address-next-requires
 put_address-next-requires c =
     let a = c.args in
-    let room = fits a.options.given a.widths a.image.bytes.now a.image.len a.span.offset a.span.size a.span.addr a.excerpt.now _ _ c.requires.1 in
-    (c.requires.0.address_fits, omega arith)
+    let room = fits a.self.layout.options.given a.self.layout.widths a.image.bytes.now a.image.len _ a.self.span.size a.self.span.addr a.excerpt.now _ _ c.requires in
+    omega arith
 
 pub put_all-next-requires-2 : goal.put_all-next-requires-2
 put_all-next-requires-2 c =
     let a = c.args in
-    let room = fits a.options.given a.widths a.image.bytes.now a.image.len a.span.offset a.span.size a.span.addr a.excerpt.now _ _ c.requires.1 in
-    omega (arith, wide a.options.given a.widths.addr a.span.addr)
+    let room = fits a.self.layout.options.given a.self.layout.widths a.image.bytes.now a.image.len _ a.self.span.size a.self.span.addr a.excerpt.now _ _ c.requires in
+    omega (arith, wide a.self.layout.options.given a.self.layout.widths.addr a.self.span.addr)
 
 pub put_column-next-requires : goal.put_column-next-requires
 put_column-next-requires c =
     let a = c.args in
-    let room = fits a.options.given a.widths a.image.bytes.now a.image.len a.span.offset a.span.size a.span.addr a.excerpt.now _ _ c.requires.1 in
-    omega (arith, wide a.options.given a.widths.addr a.span.addr)
+    let room = fits a.self.layout.options.given a.self.layout.widths a.image.bytes.now a.image.len _ a.self.span.size a.self.span.addr a.excerpt.now _ _ c.requires in
+    omega (arith, wide a.self.layout.options.given a.self.layout.widths.addr a.self.span.addr)
 
 pub put_all-next-requires-3 : goal.put_all-next-requires-3
 put_all-next-requires-3 c =
     let a = c.args in
-    let room = fits a.options.given a.widths a.image.bytes.now a.image.len a.span.offset a.span.size a.span.addr a.excerpt.now _ _ c.requires.1 in
-    omega (arith, wide a.options.given a.widths.addr a.span.addr)
+    let room = fits a.self.layout.options.given a.self.layout.widths a.image.bytes.now a.image.len _ a.self.span.size a.self.span.addr a.excerpt.now _ _ c.requires in
+    omega (arith, wide a.self.layout.options.given a.self.layout.widths.addr a.self.span.addr)
 
 pub put_all-next-requires-4 : goal.put_all-next-requires-4
 put_all-next-requires-4 c =
     let a = c.args in
-    let room = fits a.options.given a.widths a.image.bytes.now a.image.len a.span.offset a.span.size a.span.addr a.excerpt.now _ _ c.requires.1 in
-    omega (arith, wide a.options.given a.widths.addr a.span.addr)
+    let room = fits a.self.layout.options.given a.self.layout.widths a.image.bytes.now a.image.len _ a.self.span.size a.self.span.addr a.excerpt.now _ _ c.requires in
+    omega (arith, wide a.self.layout.options.given a.self.layout.widths.addr a.self.span.addr)
 
 pub put-requires : goal.put-requires
 put-requires c =
     let a = c.args in
-    let room = fits a.options.given a.widths a.image.bytes.now a.image.len a.span.offset a.span.size a.span.addr a.excerpt.now _ _ c.requires.1 in
-    omega (arith, wide a.options.given a.widths.addr a.span.addr)
+    let room = fits a.self.layout.options.given a.self.layout.widths a.image.bytes.now a.image.len _ a.self.span.size a.self.span.addr a.excerpt.now _ _ c.requires in
+    omega (arith, wide a.self.layout.options.given a.self.layout.widths.addr a.self.span.addr)
 
 pub returns : goal.returns
 unfolding line_text
