@@ -12,7 +12,7 @@ ghost use Rattle.rows.specs.Rows.{digits_per_byte, digit_bits};
 ghost use Rattle.listing.specs.Listing.{content_digit, contents};
 ghost use Rattle.listing_contents.specs.Groups.{spaced, groups};
 
-use bitvec::{BitOffset, Image};
+use bitvec::{BitOffset, Image, WholeBytes};
 use listing::ListingOptions;
 use numbers::{DigitWidth, Letters};
 use rows::ByteDigits;
@@ -62,7 +62,7 @@ impl<'a> Digits<'a> {
         if self.image.len < from.0 + self.width.bits {
             return output::put(out, at, b'.');
         }
-        digits::put_digit(out, at, self.image, self.width.bits, from)
+        digits::put_digit(out, at, self.image, self.width, from)
     }
 
     // Stores `count` digits, one by one, with a space between groups.
@@ -88,7 +88,7 @@ impl<'a> Digits<'a> {
         if self.group < count || self.image.len < self.from.0 + count * self.width.bits {
             return self.put_each(out, at, count);
         }
-        digits::put_run(out, at, self.image, self.width.bits, self.from, count)
+        digits::put_run(out, at, self.image, self.width, self.from, count)
     }
 
     // Stores `count` groups, with a space behind each.
@@ -101,7 +101,7 @@ impl<'a> Digits<'a> {
         let mut next = at;
         for k in 0..count {
             let from = self.from.plus(k * step);
-            next = digits::put_run(out, next, self.image, self.width.bits, from, self.group);
+            next = digits::put_run(out, next, self.image, self.width, from, self.group);
             next = output::put(out, next, b' ');
         }
         next
@@ -130,7 +130,12 @@ impl<'a> Digits<'a> {
             return put_shifted(out, at, kind, image, first, shift, count);
         }
         if shift == 0 {
-            return rows::put_rows(out, at, kind, image, first, size, b" ", count);
+            let bytes = WholeBytes {
+                image,
+                first,
+                count: count * size,
+            };
+            return rows::put_rows(out, at, kind, bytes, size, b" ", count);
         }
         self.put_runs(out, at, count)
     }

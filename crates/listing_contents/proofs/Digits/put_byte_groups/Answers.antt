@@ -14,11 +14,11 @@ group_bits : (kind : ByteDigits) (count group width size : ℕ) → width ≡ di
     → count * (group * width) ≡ count * size * 8
 group_bits kind count group width size e f = rw (e, f, digits_bits kind size, mul_assoc count size 8)
 
-pub put_rows-requires-clause-inside : goal.put_rows-requires-clause-inside
-put_rows-requires-clause-inside c =
+pub invariant_of-bytes : goal.invariant_of-bytes
+invariant_of-bytes c =
     let a = c.args in
     let bits = group_bits a.kind a.count a.self.group a.self.width.bits a.size c.requires.kind.0 c.requires.kind.1 in
-    (omega (arith, c.byte-first.ensures, c.shift-shift.ensures), omega (arith, c.byte-first.ensures))
+    record { inside = (omega (arith, c.byte-first.ensures, c.shift-shift.ensures), omega (arith, c.byte-first.ensures)) }
 
 pub returns-then-shift-eq0 : goal.returns-then-shift-eq0
 returns-then-shift-eq0 c =

@@ -11,7 +11,7 @@ pub put_run-requires : goal.put_run-requires
 put_run-requires c =
     let a = c.args.self in
     let same = group_run a.image.bytes.now a.image.len a.width.bits a.group a.from.0 c.args.count (omega (arith, c.if-self-count.false)) (omega (arith, c.if-self-count-2.false)) in
-    (a.width.few, c.requires.small, omega (arith, ap length same, run_length a.image.bytes.now a.image.len a.width.bits a.from.0 c.args.count, c.requires.room))
+    (c.requires.small, omega (arith, ap length same, run_length a.image.bytes.now a.image.len a.width.bits a.from.0 c.args.count, c.requires.room))
 
 pub returns : goal.returns
 returns c =

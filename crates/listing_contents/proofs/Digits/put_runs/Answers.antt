@@ -18,7 +18,7 @@ put_run-next-requires c =
     let l = c.loop-k in
     let near = stride l.k c.args.count (a.group * a.width.bits) c.loop-k-test.true in
     let room = stride l.k c.args.count (a.group + 1) c.loop-k-test.true in
-    (a.width.few, omega (arith, c.plus-from.ensures), omega (arith, groups_length a.image.bytes.now a.image.len a.width.bits a.group a.from.0 l.k))
+    (omega (arith, c.plus-from.ensures), omega (arith, groups_length a.image.bytes.now a.image.len a.width.bits a.group a.from.0 l.k))
 
 pub put-next-requires : goal.put-next-requires
 put-next-requires c =
