@@ -1,36 +1,20 @@
--- Laws of the two source texts: which one a file is.
+-- Laws of a source text: its length, and whether it is ASCII.
 -- Assumes nothing.
 use mathlib.Core.Path.{◌≡◌, refl, sym, ap, subst, ◌∙◌}
 use mathlib.Core.Bool.{Bool, true, false, cond}
 use mathlib.Core.List.{List}
-use mathlib.Core.Logic.{◌≢◌}
 use mathlib.Mathlib.Data.Bool.Basic.{or-eq-false-eq-eq-false-and-eq-false}
-use Prim.Native.Nat.{ℕ, zero, suc, ◌+◌, ◌-◌, ◌≤◌, max}
+use Prim.Native.Nat.{ℕ, zero, suc, ◌+◌, ◌≤◌, max}
 use native.Mathlib.Numerals.{add-one}
 use native.Mathlib.Omega.{arith}
 use lib.Dec.{ltb}
-use lib.ListN.{length, take, drop, get_or, length-drop}
-use lib.Seq.{length-take-le, take-length}
+use lib.ListN.{length, take, get_or}
+use lib.Seq.{take-length}
 use Rattle.std.specs.List.{fold}
 use Rattle.std.proofs.lemmas.List.Sums.{fold_more}
-use borrow.Author.Tests.{eq-eqb, ne_eqb, lt-ltb, le-ltb, ltb-true, ltb-false}
+use borrow.Author.Tests.{lt-ltb, le-ltb, ltb-true, ltb-false}
 use Rattle.ordering.specs.Lists.{first}
-use Rattle.sources.specs.Sources.{source, excerpt_of, not_ascii, bad_text}
-
-pub source_firmware : (firmware protocol : List ℕ) (file : ℕ) → file ≡ 0 → source firmware protocol file ≡ firmware
-unfolding source
-source_firmware firmware protocol file e = simp (eq-eqb file 0 e)
-
-pub source_protocol : (firmware protocol : List ℕ) (file : ℕ) → file ≢ 0 → source firmware protocol file ≡ protocol
-unfolding source
-source_protocol firmware protocol file e = simp (ne_eqb file 0 e)
-
--- An excerpt has a byte for each place from start to end.
-pub excerpt_length : (firmware protocol : List ℕ) (file start end : ℕ) → start ≤ end → end ≤ length (source firmware protocol file)
-    → length (excerpt_of firmware protocol file start end) ≡ end - start
-unfolding excerpt_of
-excerpt_length firmware protocol file start end l h =
-    length-take-le (end - start) (drop start (source firmware protocol file)) (omega (arith, length-drop start (source firmware protocol file)))
+use Rattle.sources.specs.Sources.{not_ascii, bad_text}
 
 -- A text that is not bad has at most 1,048,576 bytes.
 pub short_text : (t : List ℕ) → bad_text t ≡ false → length t ≤ 1048576
