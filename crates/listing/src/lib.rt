@@ -287,7 +287,8 @@ impl Layout {
     }
 }
 
-// The widths over all spans that have an offset.
+// The widths over all spans that have an offset. The loop counts places, since one place is that of
+// three numbers: three iterators in step are no plainer.
 pub fn column_widths(options: ListingOptions, spans: SpanList, addrs: &[u64]) -> Widths
     requires { length addrs.now ≡ length spans.offsets.now }
     ensures measured { result ≡ widths_of options.given spans.entry.offsets.now spans.entry.sizes.now addrs.now (length spans.entry.offsets.now) }

@@ -44,6 +44,7 @@ fn put_shifted(
     ensures { Writes (groups image.entry.bytes.now image.entry.len (digit_bits kind) (digits_per_byte kind) (first * 8 + shift) count) out.old at out.new result }
 {
     let mut next = at;
+    // By places, which `read_across` takes: windows of two bytes would want a second reader of them.
     for k in 0..count {
         let byte = image.read_across(first + k, shift, 8);
         next = rows::put_digits(out, next, kind, byte);
@@ -72,6 +73,7 @@ impl<'a> Digits<'a> {
         ensures { Writes (spaced self.entry.image.bytes.now self.entry.image.len self.entry.width.bits self.entry.group self.entry.from.0 count) out.old at out.new result }
     {
         let mut next = at;
+        // k is a digit's number, by which its place and the space before it are found.
         for k in 0..count {
             next = output::put_between(out, next, self.group, k, b' ');
             next = self.put_digit(out, next, k);
@@ -99,6 +101,7 @@ impl<'a> Digits<'a> {
     {
         let step = self.group * self.width.bits;
         let mut next = at;
+        // k is a group's number, by which its bit is found: the groups are no parts of a slice.
         for k in 0..count {
             let from = self.from.plus(k * step);
             next = digits::put_run(out, next, self.image, self.width, from, self.group);
@@ -164,11 +167,8 @@ impl<'a> Digits<'a> {
         ensures { (result ≤ most) × (0 < result → (self.entry.from.0 + result * (self.entry.group * self.entry.width.bits) ≤ self.entry.image.len) × (self.entry.from.0 + result * (self.entry.group * self.entry.width.bits) ≤ length self.entry.image.bytes.now * 8)) }
     {
         let end = self.image.whole_bytes() * 8;
-        let start = self.from.0;
-        if end < start {
-            return 0;
-        }
-        most.min((end - start) / (self.group * self.width.bits))
+        let bits = end.saturating_sub(self.from.0);
+        most.min(bits / (self.group * self.width.bits))
     }
 }
 

@@ -46,7 +46,7 @@ fn outside(sources: Sources, location: Location) -> bool
 
 // The excerpt at a location, or none where no text has it.
 fn excerpt<'a>(sources: Sources<'a>, location: Option<Location>) -> Option<&'a [u8]>
-    ensures { (file start end : ℕ) → location ≡ location_from file start end → MatchOption result (misplaced sources.entry.firmware.now sources.entry.protocol.now file start end ≡ true) (λ t. (misplaced sources.entry.firmware.now sources.entry.protocol.now file start end ≡ false) × (t.now ≡ excerpt_of sources.entry.firmware.now sources.entry.protocol.now file start end)) }
+    ensures { let f = sources.entry.firmware.now in let p = sources.entry.protocol.now in (file start end : ℕ) → location ≡ location_from file start end → MatchOption result (misplaced f p file start end ≡ true) (λ t. (misplaced f p file start end ≡ false) × (t.now ≡ excerpt_of f p file start end)) }
 {
     let location = location?;
     if outside(sources, location) {
@@ -79,7 +79,7 @@ pub fn span_fault(
     requires sizes { length columns.sizes.now ≡ length columns.offsets.now }
     requires files { length columns.files.now ≡ length columns.offsets.now }
     requires locations { (length columns.starts.now ≡ length columns.offsets.now) × (length columns.ends.now ≡ length columns.offsets.now) }
-    ensures { MatchOption result (span_fault options (lent columns.entry) sources.entry.firmware.now sources.entry.protocol.now ≡ length columns.entry.offsets.now) (λ p. (p < length columns.entry.offsets.now) × (p ≡ span_fault options (lent columns.entry) sources.entry.firmware.now sources.entry.protocol.now)) }
+    ensures { let fault = span_fault options (lent columns.entry) sources.entry.firmware.now sources.entry.protocol.now in MatchOption result (fault ≡ length columns.entry.offsets.now) (λ p. (p < length columns.entry.offsets.now) × (p ≡ fault)) }
 {
     for (p, &number) in columns.offsets.iter().enumerate() {
         let offset = ordering::offset_of(number);
@@ -95,7 +95,7 @@ impl<'a> ShownSpans<'a> {
     // The excerpt of the span at a place, or none where the span is hidden.
     fn excerpt(self, place: usize) -> Option<&'a [u8]>
         requires { place < length self.spans.columns.offsets.now }
-        ensures { let s = self.entry.spans.columns in MatchOption result (shown self.entry.layout.options.given (get_or s.sizes.now place 0) ≡ false) (λ t. (shown self.entry.layout.options.given (get_or s.sizes.now place 0) ≡ true) × (t.now ≡ excerpt_of self.entry.sources.firmware.now self.entry.sources.protocol.now (get_or s.files.now place 0) (get_or s.starts.now place 0) (get_or s.ends.now place 0))) }
+        ensures { let s = self.entry in let c = s.spans.columns in let seen = shown s.layout.options.given (get_or c.sizes.now place 0) in MatchOption result (seen ≡ false) (λ t. (seen ≡ true) × (t.now ≡ excerpt_of s.sources.firmware.now s.sources.protocol.now (get_or c.files.now place 0) (get_or c.starts.now place 0) (get_or c.ends.now place 0))) }
     {
         let columns = self.spans.columns;
         if !shown(self.layout.options.given, columns.sizes[place]) {
