@@ -2,35 +2,43 @@
 -- Assumes nothing.
 use mathlib.Core.Path.{◌≡◌, refl, sym}
 use mathlib.Core.Bool.{Bool, true, false, cond, not, ◌||◌}
-use lib.Dec.{eqb}
+use lib.Dec.{eqb, ltb}
 use lib.ListN.{length}
 use borrow.Author.Tests.{eq-eqb}
-use Rattle.outcome.specs.Outcome.{Outcome, refused}
-use Rattle.span_range.specs.Range.{long_list, spans_checked}
-use Rattle.span_range.proofs.Good.{short_list}
-use Rattle.listing.specs.Listing.{Spans, unequal}
+use Rattle.outcome.specs.declared.Refusal.{Refusal}
+use Rattle.outcome.specs.Outcome.{Outcome, refused, refusal_of}
+use Rattle.span_range.specs.Range.{IsCause, long_list, fault_at, spans_checked}
+use Rattle.span_range.proofs.Good.{checked_refused, checked_good}
+use Rattle.listing.specs.declared.ListedSpans.{ListedSpans}
+use Rattle.listing.specs.Listing.{Spans, lent, unequal}
 
 -- They are not unequal where each is as long as the offsets.
-pub even : (s : Spans) → length s.addrs ≡ length s.offsets → length s.files ≡ length s.offsets → length s.starts ≡ length s.offsets → length s.ends ≡ length s.offsets
-    → unequal s ≡ false
+even : (s : ListedSpans) → unequal (lent s.columns) ≡ false
 unfolding unequal
-even s a f p e =
-    let n = length s.offsets in
-    simp (eq-eqb n (length s.addrs) (sym a), eq-eqb n (length s.files) (sym f), eq-eqb n (length s.starts) (sym p), eq-eqb n (length s.ends) (sym e))
+even s =
+    let c = lent s.columns in
+    let n = length c.offsets in
+    simp (eq-eqb n (length c.addrs) (sym s.same_addrs), eq-eqb n (length c.files) (sym s.same_files), eq-eqb n (length c.starts) (sym s.same_starts), eq-eqb n (length c.ends) (sym s.same_ends))
 
--- Where the sizes are as long as the offsets, it is another column that is not.
-pub uneven : (s : Spans) → long_list s.offsets s.sizes ≡ false → unequal s || not (eqb (length s.offsets) (length s.sizes)) ≡ true → unequal s ≡ true
-uneven s l e = go (unequal s) (rw (eq-eqb _ _ (short_list s.offsets s.sizes l).1) at e)
-  where
-    go : (b : Bool) → b || false ≡ true → b ≡ true
-    go true h = refl
-    go false h = h
+-- What columns are checked to, their lengths first.
+module _ (good : Outcome) where
+  abbrev pub checked : Spans → Outcome
+  checked s = cond (unequal s) (refused 3 4096) (spans_checked refused s.offsets s.sizes good)
 
--- A long list is refused whatever the other columns are.
-pub long_refused : (s : Spans) (good : Outcome) → long_list s.offsets s.sizes ≡ true
-    → cond (unequal s) (refused 3 4096) (spans_checked refused s.offsets s.sizes good) ≡ refused 3 4096
-long_refused s good e = rw e (go (unequal s))
-  where
-    go : (b : Bool) → cond b (refused 3 4096) (refused 3 4096) ≡ refused 3 4096
-    go true = refl
-    go false = refl
+  -- Those that are not of one length are refused as a long list is.
+  pub columns_refused : (s : Spans) → (unequal s || not (eqb (length s.offsets) (length s.sizes))) ≡ true → checked s ≡ refused 3 4096
+  unfolding long_list
+  columns_refused s = go (unequal s) (ltb 4096 (length s.offsets)) (not (eqb (length s.offsets) (length s.sizes)))
+    where
+      go : (u l d : Bool) → (u || d) ≡ true
+          → cond u (refused 3 4096) (cond (l || d) (refused 3 4096) (cond (ltb (fault_at s.offsets s.sizes) (length s.offsets)) (refused 3 (fault_at s.offsets s.sizes)) good)) ≡ refused 3 4096
+      go true l d e = refl
+      go false true d e = refl
+      go false false d e = rw e refl
+
+  pub list_refused : (s : ListedSpans) (r : Refusal) → IsCause s.columns.offsets.now s.columns.sizes.now r → checked (lent s.columns) ≡ refused (refusal_of r).number (refusal_of r).value
+  list_refused s r c = rw (even s) (checked_refused refused good s.columns.offsets.now s.columns.sizes.now r c)
+
+  pub list_good : (s : ListedSpans) → long_list s.columns.offsets.now s.columns.sizes.now ≡ false → fault_at s.columns.offsets.now s.columns.sizes.now ≡ length s.columns.offsets.now
+      → checked (lent s.columns) ≡ good
+  list_good s l f = rw (even s) (checked_good refused good s.columns.offsets.now s.columns.sizes.now l f)

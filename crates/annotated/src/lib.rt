@@ -11,11 +11,14 @@ ghost use Rattle.listing_spans.specs.Faults.{span_fault};
 ghost use Rattle.annotated.specs.Annotated.{listed_outcome, annotated_outcome};
 
 use bitvec::Image;
-use listing::{FormatAnnotatedOptions, ListedSpans, ListingOptions, SpanColumns};
+use listing::{FormatAnnotatedOptions, Layout, ListedSpans, ListingOptions, SpanColumns};
+use listing_spans::ShownSpans;
 use outcome::{Export, Refusal};
 use sources::Sources;
+use span_range::GoodSpans;
 
-// What a listing shows, where all its refusals but refusal 8 are ruled out.
+// What a listing shows, where each refusal but refusal 8 is ruled out: at most 4,096 spans, none of them
+// with a fault, and short texts.
 #[derive(Clone, Copy)]
 struct Listed<'a> {
     image: Image<'a>,
@@ -34,25 +37,26 @@ impl<'a> Listed<'a> {
         requires { places.now ≡ in_order self.spans.columns.offsets.now }
         ensures { Exports (in_room (length out.old) (annotated_text self.entry.options.given self.entry.image.bytes.now self.entry.image.len (lent self.entry.spans.columns) self.entry.sources.firmware.now self.entry.sources.protocol.now)) result out.old out.new }
     {
-        let options = self.options;
-        let spans = self.spans;
+        let Listed {
+            image,
+            options,
+            spans,
+            sources,
+        } = self;
         let widths = listing::column_widths(options, spans.list(), spans.columns.addrs);
-        let lines = listing_spans::lines_length(options, widths, places, spans, self.sources);
-        let needed = listing::heading_length(options, widths) + lines;
+        let layout = Layout { options, widths };
+        let shown = ShownSpans {
+            layout,
+            spans,
+            sources,
+        };
+        let lines = shown.lines_length(places);
+        let needed = layout.heading_length() + lines;
         if out.len() < needed {
             return Err(Refusal::NoRoom(needed));
         }
-        let next = listing::put_heading(out, options, widths);
-        Ok(listing_spans::put_lines(
-            out,
-            next,
-            self.image,
-            options,
-            widths,
-            places,
-            spans,
-            self.sources,
-        ))
+        let next = layout.put_heading(out);
+        Ok(shown.put_lines(out, next, image, places))
     }
 
     // The listing of at most N spans, or refusal 8.
@@ -105,6 +109,7 @@ fn format_spans(
 
 // The listing of the lent spans. A span is an offset, with 4294967295 for an absent one, a size, a
 // logical address, a file, and a start and an end there, in six columns of one length.
+#[tactic(auto, unfolding(crate::specs::Annotated::annotated_outcome))]
 pub fn format_annotated(
     image: Image,
     spans: SpanColumns,
@@ -114,20 +119,9 @@ pub fn format_annotated(
 ) -> Export
     ensures { Exports (annotated_outcome image.entry.bytes.now image.entry.len options (lent spans.entry) sources.entry.firmware.now sources.entry.protocol.now (length out.old)) result out.old out.new }
 {
-    if image.bad_size() {
-        return Err(Refusal::ImageSize);
-    }
-    let Some(options) = ListingOptions::new(options) else {
-        return Err(Refusal::OptionRange);
-    };
-    if span_range::long_list(spans.offsets, spans.sizes) {
-        return Err(Refusal::SpanRange(4096));
-    }
-    let Some(spans) = ListedSpans::new(spans) else {
-        return Err(Refusal::SpanRange(4096));
-    };
-    if let Some(place) = span_range::fault_at(spans.list()) {
-        return Err(Refusal::SpanRange(place));
-    }
-    format_spans(image, options, spans, sources, out)
+    let image = image.good().ok_or(Refusal::ImageSize)?;
+    let options = ListingOptions::new(options).ok_or(Refusal::OptionRange)?;
+    let spans = ListedSpans::new(spans).ok_or(Refusal::SpanRange(4096))?;
+    let list = GoodSpans::new(spans.columns.offsets, spans.columns.sizes)?;
+    format_spans(image.image, options, spans, sources, out)
 }

@@ -1,6 +1,6 @@
 -- Laws of the listing's options and of the widths of its columns.
 -- Assumes nothing.
-use mathlib.Core.Path.{◌≡◌, refl, sym, ap, ◌∙◌}
+use mathlib.Core.Path.{◌≡◌, refl, ap, ◌∙◌}
 use mathlib.Core.Bool.{Bool, true, false, ◌||◌}
 use mathlib.Core.List.{List, ◌++◌}
 use mathlib.Core.Logic.{◌≢◌}
@@ -11,6 +11,7 @@ use native.Mathlib.Omega.{arith}
 use lib.Dec.{eqb}
 use lib.ListN.{length, get_or, length-append}
 use borrow.Author.Tests.{lt-ltb, le-ltb, ne_eqb, eq-eqb}
+use Rattle.std.specs.Prelude.{None, Some}
 use Rattle.output.specs.Ascii.{ascii}
 use Rattle.output.proofs.Order.{by_order}
 use Rattle.outcome.specs.Outcome.{outside}
@@ -19,15 +20,16 @@ use Rattle.numbers.specs.declared.Letters.TheVariants.{Lower}
 use Rattle.numbers.specs.Digits.{digit_count, number_text}
 use Rattle.numbers.proofs.Digits.{count_last, count_more, number_length, padded_length}
 use Rattle.bases.specs.Base.{base_bits}
-use Rattle.ordering.specs.Order.{absent}
+use Rattle.ordering.specs.Order.{offset_from}
+use Rattle.ordering.proofs.Offsets.{offset_some, offset_none}
 use Rattle.listing.specs.declared.FormatAnnotatedOptions.{FormatAnnotatedOptions}
 use Rattle.listing.specs.declared.Widths.{Widths}
 use Rattle.listing.specs.Listing.{out_of_range, bad_annotated, content_digits, content_need, addr_title, wider, widths_of, at_right, heading}
 
 -- The options are bad where one of them is, and are not where none is.
-pub bad_base : (o : FormatAnnotatedOptions) → 0 ≡ base_bits o.base → bad_annotated o ≡ true
+pub bad_base : (o : FormatAnnotatedOptions) → base_bits o.base ≡ 0 → bad_annotated o ≡ true
 unfolding bad_annotated
-bad_base o e = simp (eq-eqb (base_bits o.base) 0 (sym e))
+bad_base o e = simp (eq-eqb (base_bits o.base) 0 e)
 
 pub bad_other : (o : FormatAnnotatedOptions) → out_of_range o ≡ true → bad_annotated o ≡ true
 unfolding bad_annotated
@@ -115,12 +117,14 @@ heading_parts o w =
     )
 
 -- The widths with one span more: the same where its offset is absent.
-pub widths_absent : (o : FormatAnnotatedOptions) (offsets sizes addrs : List ℕ) (n : ℕ) → get_or offsets n 0 ≡ absent
+pub widths_absent : (o : FormatAnnotatedOptions) (offsets sizes addrs : List ℕ) (n : ℕ) → offset_from (get_or offsets n 0) ≡ None
     → widths_of o offsets sizes addrs (n + 1) ≡ widths_of o offsets sizes addrs n
 unfolding widths_of
-widths_absent o offsets sizes addrs n e = rw add-one (simp (eq-eqb _ _ e))
+widths_absent o offsets sizes addrs n e = rw add-one (simp (eq-eqb _ _ (offset_none _ e)))
 
-pub widths_present : (o : FormatAnnotatedOptions) (offsets sizes addrs : List ℕ) (n : ℕ) → get_or offsets n 0 ≢ absent
-    → widths_of o offsets sizes addrs (n + 1) ≡ wider o (widths_of o offsets sizes addrs n) (get_or offsets n 0) (get_or sizes n 0) (get_or addrs n 0)
+pub widths_present : (o : FormatAnnotatedOptions) (offsets sizes addrs : List ℕ) (n m : ℕ) → offset_from (get_or offsets n 0) ≡ Some m
+    → widths_of o offsets sizes addrs (n + 1) ≡ wider o (widths_of o offsets sizes addrs n) m (get_or sizes n 0) (get_or addrs n 0)
 unfolding widths_of
-widths_present o offsets sizes addrs n e = rw add-one (simp (ne_eqb _ _ e))
+widths_present o offsets sizes addrs n m e =
+    let there = offset_some _ _ e in
+    rw (add-one, ← there.0) (simp (ne_eqb _ _ there.1))

@@ -4,7 +4,7 @@
 --      outp | addr | data (base 16)
 --
 --       0:0 |    0 | 12 ; nop
-use Rattle.std.specs.Prelude.{Bool, cond, not, ◌||◌, ℕ, zero, suc, ◌+◌, ◌-◌, ◌*◌, ◌/◌, ◌%◌, ◌≤◌, max, eqb, ltb, length, get_or, replicate}
+use Rattle.std.specs.Prelude.{Bool, Option, None, Some, cond, not, ◌||◌, ℕ, zero, suc, ◌+◌, ◌-◌, ◌*◌, ◌/◌, ◌%◌, ◌≤◌, max, eqb, ltb, length, get_or, replicate}
 use mathlib.Core.List.{List, [], ◌∷◌, ◌++◌, flat_map}
 use Prim.Native.Char.{code}
 use Rattle.bitvec.specs.Size.{ceil_div}
@@ -16,8 +16,9 @@ use Rattle.numbers.specs.Digits.{digit_count, number_text, padded}
 use Rattle.bases.specs.Base.{base_bits}
 use Rattle.digits.specs.Run.{digit_at}
 use Rattle.ordering.specs.Order.{absent, in_order}
-use Rattle.sources.specs.Sources.{excerpt_of}
+use Rattle.sources.specs.Sources.{no_location, excerpt_of}
 use Rattle.listing.specs.declared.FormatAnnotatedOptions.{FormatAnnotatedOptions}
+use Rattle.listing.specs.declared.Location.{Location}
 use Rattle.listing.specs.declared.SpanColumns.{SpanColumns}
 use Rattle.listing.specs.declared.Widths.{Widths}
 
@@ -46,6 +47,10 @@ spans_of offsets sizes addrs files starts ends =
 -- The spans of columns as lent.
 abbrev pub lent : SpanColumns → Spans
 lent c = spans_of c.offsets.now c.sizes.now c.addrs.now c.files.now c.starts.now c.ends.now
+
+-- The location that lent numbers say: none where the start is the number of none.
+unfoldable pub location_from : ℕ → ℕ → ℕ → Option Location
+location_from file start end = cond (eqb start no_location) None (Some (record { file = file; start = start; end = end }))
 
 -- Slices of unequal length, a cause of refusal 3. The sizes are looked at with the offsets.
 unfoldable pub unequal : Spans → Bool

@@ -3,14 +3,17 @@
 // room.
 #![tactic(auto)]
 
-ghost use Rattle.std.specs.Prelude.{◌≡◌, true, false, not, ◌||◌, eqb, ◌+◌, ◌≤◌, ◌<◌, max, length, get_or, MatchOption};
+ghost use Rattle.std.specs.Prelude.{◌≡◌, ◌≢◌, true, false, not, ◌||◌, eqb, ◌+◌, ◌≤◌, ◌<◌, max, length, get_or, MatchOption};
+ghost use Rattle.std.specs.Option.{ForSome};
 ghost use Rattle.output.specs.Writes.{Writes};
 ghost use Rattle.bases.specs.Base.{base_bits};
 ghost use Rattle.numbers.specs.Digits.{digit_count, padded};
-ghost use Rattle.listing.specs.Listing.{lent, unequal, Narrow, out_of_range, bad_annotated, content_need, addr_title, wider, widths_of, heading};
+ghost use Rattle.ordering.specs.Order.{absent, offset_from};
+ghost use Rattle.listing.specs.Listing.{lent, location_from, unequal, Narrow, out_of_range, bad_annotated, content_need, addr_title, wider, widths_of, heading};
 
-use numbers::{Letters, Radix};
-use ordering::{ABSENT, SpanList};
+use numbers::{DigitWidth, Letters, Radix};
+use ordering::SpanList;
+use sources::NO_LOCATION;
 
 // The spans of a listing as they are lent, a column for each number of a span; their lengths may differ.
 #[derive(Clone, Copy)]
@@ -31,13 +34,14 @@ pub struct Location {
     pub end: u64,
 }
 
-// A span of a listing.
+// A span of a listing. An offset that is there has not the number of an absent one.
 #[derive(Clone, Copy)]
 pub struct ListedSpan {
-    pub offset: u32,
+    pub offset: Option<u32>,
     pub size: u32,
     pub addr: u64,
-    pub location: Location,
+    pub location: Option<Location>,
+    pub ghost there: { ForSome offset (λ n. n ≢ absent) },
 }
 
 // Spans whose columns are of one length.
@@ -52,16 +56,18 @@ pub struct ListedSpans<'a> {
 }
 
 impl<'a> SpanColumns<'a> {
-    // The location of the span at a place.
-    pub fn location(self, place: usize) -> Location
+    // The location of the span at a place, where its start is not the number of none.
+    #[tactic(auto, unfolding(crate::specs::Listing::location_from))]
+    pub fn location(self, place: usize) -> Option<Location>
         requires { (place < length self.files.now) × (place < length self.starts.now) × (place < length self.ends.now) }
-        ensures { result ≡ record { file = get_or self.entry.files.now place 0; start = get_or self.entry.starts.now place 0; end = get_or self.entry.ends.now place 0 } }
+        ensures { result ≡ location_from (get_or self.entry.files.now place 0) (get_or self.entry.starts.now place 0) (get_or self.entry.ends.now place 0) }
     {
-        Location {
+        let location = Location {
             file: self.files[place],
             start: self.starts[place],
             end: self.ends[place],
-        }
+        };
+        (location.start != NO_LOCATION).then_some(location)
     }
 }
 
@@ -96,13 +102,13 @@ impl<'a> ListedSpans<'a> {
     // The span at a place.
     pub fn span(self, place: usize) -> ListedSpan
         requires { place < length self.columns.offsets.now }
-        ensures offset { result.offset ≡ get_or self.entry.columns.offsets.now place 0 }
+        ensures offset { result.offset ≡ offset_from (get_or self.entry.columns.offsets.now place 0) }
         ensures size { result.size ≡ get_or self.entry.columns.sizes.now place 0 }
         ensures addr { result.addr ≡ get_or self.entry.columns.addrs.now place 0 }
-        ensures location { result.location ≡ record { file = get_or self.entry.columns.files.now place 0; start = get_or self.entry.columns.starts.now place 0; end = get_or self.entry.columns.ends.now place 0 } }
+        ensures location { result.location ≡ location_from (get_or self.entry.columns.files.now place 0) (get_or self.entry.columns.starts.now place 0) (get_or self.entry.columns.ends.now place 0) }
     {
         ListedSpan {
-            offset: self.columns.offsets[place],
+            offset: ordering::offset_of(self.columns.offsets[place]),
             size: self.columns.sizes[place],
             addr: self.columns.addrs[place],
             location: self.columns.location(place),
@@ -120,15 +126,15 @@ pub struct FormatAnnotatedOptions {
     pub display_labels: u8,
 }
 
-// Options that are in their range, with the bits of a digit and the radix of the addresses.
+// Options that are in their range, with the width of a digit and the radix of the addresses.
 #[derive(Clone, Copy)]
 pub struct ListingOptions {
     pub given: FormatAnnotatedOptions,
-    pub width: usize,
+    pub width: DigitWidth,
     pub radix: Radix,
     pub ghost in_range: { bad_annotated given ≡ false },
-    pub ghost bits: { width ≡ base_bits given.base },
-    pub ghost few: { (0 < width) × (width ≤ 5) },
+    pub ghost bits: { width.bits ≡ base_bits given.base },
+    pub ghost some: { 0 < width.bits },
     pub ghost group: { (0 < given.digits_per_group) × (given.digits_per_group ≤ 64) },
     pub ghost addresses: { radix.value ≡ given.addr_base },
 }
@@ -142,6 +148,13 @@ pub struct Widths {
     pub outp_bit: usize,
     pub addr: usize,
     pub content: usize,
+}
+
+// What the lines of a listing have in common: its options, and the widths of its columns.
+#[derive(Clone, Copy)]
+pub struct Layout {
+    pub options: ListingOptions,
+    pub widths: Widths,
 }
 
 // Whether an option but the base is outside its range.
@@ -177,7 +190,7 @@ impl ListingOptions {
         ensures { (result ≡ content_need self.given size) × (result ≤ 324) }
     {
         let group = self.given.digits_per_group;
-        let digits = bitvec::parts(size as usize, self.width);
+        let digits = bitvec::parts(size as usize, self.width.bits);
         let wide = digits + digits / group;
         if wide < 2 || (group + 1) * 5 < wide {
             return 0;
@@ -209,46 +222,6 @@ fn title_length(radix: Radix) -> usize
     12 + numbers::digit_count(radix.value, 10)
 }
 
-// The widths with one span more.
-fn wider(options: ListingOptions, widths: Widths, offset: u32, size: u32, addr: u64) -> Widths
-    ensures { (result ≡ wider options.given widths offset size addr) × (result.outp ≤ max widths.outp 64) × (result.outp_bit ≤ max widths.outp_bit 64) × (result.addr ≤ max widths.addr 64) × (result.content ≤ max widths.content 324) }
-{
-    let radix = options.radix.value;
-    let byte = digit_count((offset / 8) as u64, radix);
-    let bit = digit_count((offset % 8) as u64, radix);
-    let address = digit_count(addr, radix);
-    let content = options.content_need(size);
-    Widths {
-        outp: widths.outp.max(byte),
-        outp_bit: widths.outp_bit.max(bit),
-        addr: widths.addr.max(address),
-        content: widths.content.max(content),
-    }
-}
-
-// The widths over all spans that have an offset. The loop counts places, since one place is that of
-// three numbers: three iterators in step are no plainer.
-#[tactic(auto, using(crate::proofs::Columns::widths_absent, crate::proofs::Columns::widths_present))]
-pub fn column_widths(options: ListingOptions, spans: SpanList, addrs: &[u64]) -> Widths
-    requires { length addrs.now ≡ length spans.offsets.now }
-    ensures measured { result ≡ widths_of options.given spans.entry.offsets.now spans.entry.sizes.now addrs.now (length spans.entry.offsets.now) }
-    ensures small { Narrow result }
-{
-    let title = title_length(options.radix);
-    let mut widths = Widths {
-        outp: 2,
-        outp_bit: 1,
-        addr: title,
-        content: options.given.digits_per_group,
-    };
-    for (p, &offset) in spans.offsets.iter().enumerate() {
-        if offset != ABSENT {
-            widths = wider(options, widths, offset, spans.sizes[p], addrs[p]);
-        }
-    }
-    widths
-}
-
 // Stores the title of the column of addresses.
 fn put_title(out: &mut [u8], at: usize, radix: Radix, width: usize) -> usize
     requires { at + max width (length (addr_title radix.value)) ≤ length out.old }
@@ -264,28 +237,74 @@ fn put_title(out: &mut [u8], at: usize, radix: Radix, width: usize) -> usize
     output::put_all(out, next, b")")
 }
 
-// The length of the heading.
-pub fn heading_length(options: ListingOptions, widths: Widths) -> usize
-    requires { Narrow widths }
-    ensures { (result ≡ length (heading options.given widths)) × (result ≤ 700) }
-{
-    let outp = (widths.outp + widths.outp_bit + 1).max(4);
-    let addr = widths.addr.max(title_length(options.radix));
-    let base = numbers::digit_count(options.given.base as u64, 10);
-    21 + outp + addr + base
+impl Layout {
+    // The widths with one span more.
+    fn wider(self, offset: u32, size: u32, addr: u64) -> Widths
+        ensures widths { result ≡ wider self.options.given self.widths offset size addr }
+        ensures position { (result.outp ≤ max self.widths.outp 64) × (result.outp_bit ≤ max self.widths.outp_bit 64) }
+        ensures others { (result.addr ≤ max self.widths.addr 64) × (result.content ≤ max self.widths.content 324) }
+    {
+        let Layout { options, widths } = self;
+        let radix = options.radix.value;
+        let byte = digit_count((offset / 8) as u64, radix);
+        let bit = digit_count((offset % 8) as u64, radix);
+        let address = digit_count(addr, radix);
+        let content = options.content_need(size);
+        Widths {
+            outp: widths.outp.max(byte),
+            outp_bit: widths.outp_bit.max(bit),
+            addr: widths.addr.max(address),
+            content: widths.content.max(content),
+        }
+    }
+
+    // The length of the heading.
+    pub fn heading_length(self) -> usize
+        requires { Narrow self.widths }
+        ensures { (result ≡ length (heading self.options.given self.widths)) × (result ≤ 700) }
+    {
+        let Layout { options, widths } = self;
+        let outp = (widths.outp + widths.outp_bit + 1).max(4);
+        let addr = widths.addr.max(title_length(options.radix));
+        let base = numbers::digit_count(options.given.base as u64, 10);
+        21 + outp + addr + base
+    }
+
+    // Stores the heading.
+    pub fn put_heading(self, out: &mut [u8]) -> usize
+        requires { length (heading self.options.given self.widths) ≤ length out.old }
+        ensures { Writes (heading self.options.given self.widths) out.old 0 out.new result }
+    {
+        let Layout { options, widths } = self;
+        let mut next = output::put(out, 0, b' ');
+        next = numbers::put_right(out, next, b"outp", widths.outp + widths.outp_bit + 1);
+        next = output::put_all(out, next, b" | ");
+        next = put_title(out, next, options.radix, widths.addr);
+        next = output::put_all(out, next, b" | data (base ");
+        let base = options.given.base as u64;
+        next = numbers::put_number(out, next, Letters::Lower, base, Radix::DECIMAL);
+        output::put_all(out, next, b")\n\n")
+    }
 }
 
-// Stores the heading.
-pub fn put_heading(out: &mut [u8], options: ListingOptions, widths: Widths) -> usize
-    requires { length (heading options.given widths) ≤ length out.old }
-    ensures { Writes (heading options.given widths) out.old 0 out.new result }
+// The widths over all spans that have an offset. The loop counts places, since one place is that of
+// three numbers: three iterators in step are no plainer.
+pub fn column_widths(options: ListingOptions, spans: SpanList, addrs: &[u64]) -> Widths
+    requires { length addrs.now ≡ length spans.offsets.now }
+    ensures measured { result ≡ widths_of options.given spans.entry.offsets.now spans.entry.sizes.now addrs.now (length spans.entry.offsets.now) }
+    ensures small { Narrow result }
 {
-    let mut next = output::put(out, 0, b' ');
-    next = numbers::put_right(out, next, b"outp", widths.outp + widths.outp_bit + 1);
-    next = output::put_all(out, next, b" | ");
-    next = put_title(out, next, options.radix, widths.addr);
-    next = output::put_all(out, next, b" | data (base ");
-    let base = options.given.base as u64;
-    next = numbers::put_number(out, next, Letters::Lower, base, Radix::DECIMAL);
-    output::put_all(out, next, b")\n\n")
+    let title = title_length(options.radix);
+    let mut widths = Widths {
+        outp: 2,
+        outp_bit: 1,
+        addr: title,
+        content: options.given.digits_per_group,
+    };
+    for (p, &number) in spans.offsets.iter().enumerate() {
+        if let Some(offset) = ordering::offset_of(number) {
+            widths = Layout { options, widths }.wider(offset, spans.sizes[p], addrs[p]);
+        }
+    }
+    widths
 }

@@ -4,7 +4,7 @@ use mathlib.Core.Path.{◌≡◌, refl, sym, ap, ◌∙◌}
 use mathlib.Core.List.{List, [], ◌++◌, append_assoc}
 use Prim.Native.Nat.{ℕ, zero, suc, ◌+◌, ◌-◌, ◌*◌, ◌/◌, ◌%◌, ◌≤◌, ◌<◌}
 use native.Mathlib.Omega.{arith}
-use native.Mathlib.Nat.{suc-mul, one-mul, mul_assoc, add-mul, add-zero, mul-le-mul_right, div-mul-le_self, mod-eq_of_lt, mod_self, add-mod_left}
+use native.Mathlib.Nat.{suc-mul, mul_assoc, add-mul, add-zero, mul-le-mul_right, div-mul-le_self, mod-eq_of_lt, mod_self, add-mod_left}
 use lib.ListN.{length, length-append}
 use borrow.Author.Tests.{eq-eqb, ne_eqb, le-ltb}
 use Rattle.output.specs.Ascii.{ascii}
@@ -168,13 +168,6 @@ pub groups_rows : (kind : ByteDigits) (bytes : List ℕ) (len w g i m n : ℕ) �
 groups_rows kind bytes len w g i m n e f h =
     let start : i ≡ i / 8 * 8 = omega arith in
     rw (e, f) (ap (λ (x : ℕ). groups bytes len (digit_bits kind) (m * digits_per_byte kind) x n) start ∙ byte_rows kind bytes len (i / 8) m n)
-
--- Groups of one byte, from a byte and a bit in it on.
-pub groups_shifted : (kind : ByteDigits) (bytes : List ℕ) (len w g i m n : ℕ) → w ≡ digit_bits kind → g ≡ m * digits_per_byte kind → m ≡ 1
-    → groups bytes len w g i n ≡ groups bytes len (digit_bits kind) (digits_per_byte kind) (i / 8 * 8 + i % 8) n
-groups_shifted kind bytes len w g i m n e f h =
-    let start : i ≡ i / 8 * 8 + i % 8 = omega arith in
-    rw (e, f, h, one-mul (digits_per_byte kind)) (ap (λ (x : ℕ). groups bytes len (digit_bits kind) (digits_per_byte kind) x n) start)
 
 -- A byte that starts anywhere is a run of digits.
 pub any_byte : (kind : ByteDigits) (bytes : List ℕ) (len i : ℕ) → run bytes len (digit_bits kind) i (digits_per_byte kind) ≡ byte_digits kind (bits_at bytes len i 8)

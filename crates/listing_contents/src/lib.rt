@@ -3,7 +3,7 @@
 // within the image. A caller has shown that there is room.
 #![tactic(auto)]
 
-ghost use Rattle.std.specs.Prelude.{◌≡◌, true, List, [], ◌∷◌, ℕ, ◌+◌, ◌-◌, ◌*◌, ◌/◌, ◌%◌, ◌≤◌, ◌<◌, ◌^◌, length, take};
+ghost use Rattle.std.specs.Prelude.{◌≡◌, true, List, [], ◌∷◌, ℕ, ◌+◌, ◌-◌, ◌*◌, ◌/◌, ◌≤◌, ◌<◌, ◌^◌, length, take, IfSome};
 ghost use Rattle.bitvec.specs.Size.{ceil_div};
 ghost use Rattle.output.specs.Writes.{Writes};
 ghost use Rattle.numbers.specs.declared.Letters.TheVariants.{Lower};
@@ -12,9 +12,9 @@ ghost use Rattle.rows.specs.Rows.{digits_per_byte, digit_bits};
 ghost use Rattle.listing.specs.Listing.{content_digit, contents};
 ghost use Rattle.listing_contents.specs.Groups.{spaced, groups};
 
-use bitvec::{BitOffset, Image};
+use bitvec::{BitOffset, Image, WholeBytes};
 use listing::ListingOptions;
-use numbers::Letters;
+use numbers::{DigitWidth, Letters};
 use rows::ByteDigits;
 
 // Digits of a span: from a bit of the image on, of `width` bits each, in groups of `group`.
@@ -22,9 +22,9 @@ use rows::ByteDigits;
 struct Digits<'a> {
     image: Image<'a>,
     from: BitOffset,
-    width: usize,
+    width: DigitWidth,
     group: usize,
-    ghost few: { (0 < width) × (width ≤ 5) },
+    ghost positive: { 0 < width.bits },
     ghost some: { (0 < group) × (group ≤ 64) },
 }
 
@@ -44,6 +44,7 @@ fn put_shifted(
     ensures { Writes (groups image.entry.bytes.now image.entry.len (digit_bits kind) (digits_per_byte kind) (first * 8 + shift) count) out.old at out.new result }
 {
     let mut next = at;
+    // By places, which `read_across` takes: windows of two bytes would want a second reader of them.
     for k in 0..count {
         let byte = image.read_across(first + k, shift, 8);
         next = rows::put_digits(out, next, kind, byte);
@@ -55,23 +56,24 @@ fn put_shifted(
 impl<'a> Digits<'a> {
     // Stores digit k, or a point where one of its bits is past the end.
     fn put_digit(self, out: &mut [u8], at: usize, k: usize) -> usize
-        requires { (self.from.0 + k * self.width + self.width < 2 ^ 64) × (at < length out.old) }
-        ensures { Writes (content_digit self.entry.image.bytes.now self.entry.image.len self.entry.width (self.entry.from.0 + k * self.entry.width) ∷ []) out.old at out.new result }
+        requires { (self.from.0 + k * self.width.bits + self.width.bits < 2 ^ 64) × (at < length out.old) }
+        ensures { Writes (content_digit self.entry.image.bytes.now self.entry.image.len self.entry.width.bits (self.entry.from.0 + k * self.entry.width.bits) ∷ []) out.old at out.new result }
     {
-        let from = self.from.0 + k * self.width;
-        if self.image.len < from + self.width {
+        let from = self.from.plus(k * self.width.bits);
+        if self.image.len < from.0 + self.width.bits {
             return output::put(out, at, b'.');
         }
-        digits::put_digit(out, at, self.image, self.width, BitOffset(from))
+        digits::put_digit(out, at, self.image, self.width, from)
     }
 
     // Stores `count` digits, one by one, with a space between groups.
     fn put_each(self, out: &mut [u8], at: usize, count: usize) -> usize
-        requires small { self.from.0 + count * self.width < 2 ^ 64 }
-        requires room { at + length (spaced self.image.bytes.now self.image.len self.width self.group self.from.0 count) ≤ length out.old }
-        ensures { Writes (spaced self.entry.image.bytes.now self.entry.image.len self.entry.width self.entry.group self.entry.from.0 count) out.old at out.new result }
+        requires small { self.from.0 + count * self.width.bits < 2 ^ 64 }
+        requires room { at + length (spaced self.image.bytes.now self.image.len self.width.bits self.group self.from.0 count) ≤ length out.old }
+        ensures { Writes (spaced self.entry.image.bytes.now self.entry.image.len self.entry.width.bits self.entry.group self.entry.from.0 count) out.old at out.new result }
     {
         let mut next = at;
+        // k is a digit's number, by which its place and the space before it are found.
         for k in 0..count {
             next = output::put_between(out, next, self.group, k, b' ');
             next = self.put_digit(out, next, k);
@@ -81,11 +83,11 @@ impl<'a> Digits<'a> {
 
     // Stores such digits too: those of one group that the image has whole as a run.
     fn put_last(self, out: &mut [u8], at: usize, count: usize) -> usize
-        requires small { self.from.0 + count * self.width < 2 ^ 64 }
-        requires room { at + length (spaced self.image.bytes.now self.image.len self.width self.group self.from.0 count) ≤ length out.old }
-        ensures { Writes (spaced self.entry.image.bytes.now self.entry.image.len self.entry.width self.entry.group self.entry.from.0 count) out.old at out.new result }
+        requires small { self.from.0 + count * self.width.bits < 2 ^ 64 }
+        requires room { at + length (spaced self.image.bytes.now self.image.len self.width.bits self.group self.from.0 count) ≤ length out.old }
+        ensures { Writes (spaced self.entry.image.bytes.now self.entry.image.len self.entry.width.bits self.entry.group self.entry.from.0 count) out.old at out.new result }
     {
-        if self.group < count || self.image.len < self.from.0 + count * self.width {
+        if self.group < count || self.image.len < self.from.0 + count * self.width.bits {
             return self.put_each(out, at, count);
         }
         digits::put_run(out, at, self.image, self.width, self.from, count)
@@ -93,14 +95,15 @@ impl<'a> Digits<'a> {
 
     // Stores `count` groups, with a space behind each.
     fn put_runs(self, out: &mut [u8], at: usize, count: usize) -> usize
-        requires small { self.from.0 + count * (self.group * self.width) < 2 ^ 64 }
+        requires small { self.from.0 + count * (self.group * self.width.bits) < 2 ^ 64 }
         requires room { at + count * (self.group + 1) ≤ length out.old }
-        ensures { Writes (groups self.entry.image.bytes.now self.entry.image.len self.entry.width self.entry.group self.entry.from.0 count) out.old at out.new result }
+        ensures { Writes (groups self.entry.image.bytes.now self.entry.image.len self.entry.width.bits self.entry.group self.entry.from.0 count) out.old at out.new result }
     {
-        let step = self.group * self.width;
+        let step = self.group * self.width.bits;
         let mut next = at;
+        // k is a group's number, by which its bit is found: the groups are no parts of a slice.
         for k in 0..count {
-            let from = BitOffset(self.from.0 + k * step);
+            let from = self.from.plus(k * step);
             next = digits::put_run(out, next, self.image, self.width, from, self.group);
             next = output::put(out, next, b' ');
         }
@@ -118,18 +121,24 @@ impl<'a> Digits<'a> {
         size: usize,
         count: usize,
     ) -> usize
-        requires kind { (self.width ≡ digit_bits kind) × (self.group ≡ size * digits_per_byte kind) }
-        requires inside { (self.from.0 + count * (self.group * self.width) ≤ self.image.len) × (self.from.0 + count * (self.group * self.width) ≤ length self.image.bytes.now * 8) }
+        requires kind { (self.width.bits ≡ digit_bits kind) × (self.group ≡ size * digits_per_byte kind) }
+        requires inside { (self.from.0 + count * (self.group * self.width.bits) ≤ self.image.len) × (self.from.0 + count * (self.group * self.width.bits) ≤ length self.image.bytes.now * 8) }
         requires room { at + count * (self.group + 1) ≤ length out.old }
-        ensures { Writes (groups self.entry.image.bytes.now self.entry.image.len self.entry.width self.entry.group self.entry.from.0 count) out.old at out.new result }
+        ensures { Writes (groups self.entry.image.bytes.now self.entry.image.len self.entry.width.bits self.entry.group self.entry.from.0 count) out.old at out.new result }
     {
         let image = self.image;
-        let start = self.from.0;
-        if size == 1 && count < image.bytes.len() - start / 8 {
-            return put_shifted(out, at, kind, image, start / 8, start % 8, count);
+        let first = self.from.byte();
+        let shift = self.from.shift();
+        if size == 1 && count < image.bytes.len() - first {
+            return put_shifted(out, at, kind, image, first, shift, count);
         }
-        if start % 8 == 0 {
-            return rows::put_rows(out, at, kind, image, start / 8, size, b" ", count);
+        if shift == 0 {
+            let bytes = WholeBytes {
+                image,
+                first,
+                count: count * size,
+            };
+            return rows::put_rows(out, at, kind, bytes, size, b" ", count);
         }
         self.put_runs(out, at, count)
     }
@@ -137,32 +146,29 @@ impl<'a> Digits<'a> {
     // Stores `count` groups that the image has whole, with a space behind each.
     fn put_groups(self, out: &mut [u8], at: usize, count: usize) -> usize
         requires small { self.from.0 < 2 ^ 32 }
-        requires inside { 0 < count → (self.from.0 + count * (self.group * self.width) ≤ self.image.len) × (self.from.0 + count * (self.group * self.width) ≤ length self.image.bytes.now * 8) }
+        requires inside { 0 < count → (self.from.0 + count * (self.group * self.width.bits) ≤ self.image.len) × (self.from.0 + count * (self.group * self.width.bits) ≤ length self.image.bytes.now * 8) }
         requires room { at + count * (self.group + 1) ≤ length out.old }
-        ensures { Writes (groups self.entry.image.bytes.now self.entry.image.len self.entry.width self.entry.group self.entry.from.0 count) out.old at out.new result }
+        ensures { Writes (groups self.entry.image.bytes.now self.entry.image.len self.entry.width.bits self.entry.group self.entry.from.0 count) out.old at out.new result }
     {
         if count == 0 {
             return at;
         }
-        if self.width == 4 && self.group % 2 == 0 {
-            return self.put_byte_groups(out, at, ByteDigits::Hex, self.group / 2, count);
-        }
-        if self.width == 1 && self.group % 8 == 0 {
-            return self.put_byte_groups(out, at, ByteDigits::Binary, self.group / 8, count);
+        if let Some(kind) = ByteDigits::with_bits(self.width.bits) {
+            let size = self.group / kind.per_byte();
+            if size * kind.per_byte() == self.group {
+                return self.put_byte_groups(out, at, kind, size, count);
+            }
         }
         self.put_runs(out, at, count)
     }
 
     // How many groups are within the whole bytes of the image, at most `most`.
     fn groups_inside(self, most: usize) -> usize
-        ensures { (result ≤ most) × (0 < result → (self.entry.from.0 + result * (self.entry.group * self.entry.width) ≤ self.entry.image.len) × (self.entry.from.0 + result * (self.entry.group * self.entry.width) ≤ length self.entry.image.bytes.now * 8)) }
+        ensures { (result ≤ most) × (0 < result → (self.entry.from.0 + result * (self.entry.group * self.entry.width.bits) ≤ self.entry.image.len) × (self.entry.from.0 + result * (self.entry.group * self.entry.width.bits) ≤ length self.entry.image.bytes.now * 8)) }
     {
         let end = self.image.whole_bytes() * 8;
-        let start = self.from.0;
-        if end < start {
-            return 0;
-        }
-        most.min((end - start) / (self.group * self.width))
+        let bits = end.saturating_sub(self.from.0);
+        most.min(bits / (self.group * self.width.bits))
     }
 }
 
@@ -181,9 +187,8 @@ fn put_any(
 {
     let width = options.width;
     let group = options.given.digits_per_group;
-    let count = bitvec::parts(size as usize, width);
-    let start = offset as usize;
-    let from = BitOffset(start);
+    let count = bitvec::parts(size as usize, width.bits);
+    let from = BitOffset::from(offset);
     let digits = Digits {
         image,
         from,
@@ -193,7 +198,7 @@ fn put_any(
     let whole = digits.groups_inside(count.saturating_sub(1) / group);
     let next = digits.put_groups(out, at, whole);
     let done = whole * group;
-    let from = BitOffset(start + done * width);
+    let from = from.plus(done * width.bits);
     let rest = Digits {
         image,
         from,
@@ -211,19 +216,6 @@ fn paired(options: ListingOptions) -> bool
     options.given.base == 16 && options.given.digits_per_group == 2
 }
 
-// Whether `count` hexadecimal digits from `from` on are some, and the byte of the last pair is within the
-// image, with a byte behind it.
-fn pairs_inside(image: Image, from: BitOffset, count: usize) -> bool
-    requires { (from.0 < 2 ^ 32) × (count < 2 ^ 32) }
-    ensures { result ≡ true → (0 < count) × ((from.0 / 8 + (count - 1) / 2) * 8 + from.0 % 8 + 8 ≤ image.entry.len) × (from.0 / 8 + (count - 1) / 2 + 1 < length image.entry.bytes.now) }
-{
-    if count == 0 {
-        return false;
-    }
-    let last = from.0 / 8 + (count - 1) / 2;
-    last * 8 + from.0 % 8 + 8 <= image.len && last + 1 < image.bytes.len()
-}
-
 // Stores the first of the two hexadecimal digits of a byte, or both.
 fn put_pair(out: &mut [u8], at: usize, byte: u8, count: usize) -> usize
     requires { (0 < count) × (count ≤ 2) × (at + count ≤ length out.old) }
@@ -235,25 +227,57 @@ fn put_pair(out: &mut [u8], at: usize, byte: u8, count: usize) -> usize
     numbers::put_byte(out, at, Letters::Lower, byte)
 }
 
-// Stores `count` hexadecimal digits in pairs, with a space between each two. They start behind the
-// first `shift` bits of byte `first`.
-fn put_pairs(
-    out: &mut [u8],
-    at: usize,
-    image: Image,
+// Hexadecimal digits in pairs, from the bit behind the first `shift` of byte `first` on: two of each byte
+// but the last, of which there are `last`. All the bytes are within the image, with a byte behind them.
+#[derive(Clone, Copy)]
+struct DigitPairs<'a> {
+    image: Image<'a>,
     first: usize,
     shift: usize,
-    count: usize,
-) -> usize
-    requires inside { (shift < 8) × (0 < count) × ((first + (count - 1) / 2) * 8 + shift + 8 ≤ image.len) × (first + (count - 1) / 2 + 1 < length image.bytes.now) }
-    requires room { at + length (spaced image.bytes.now image.len 4 2 (first * 8 + shift) count) ≤ length out.old }
-    ensures { Writes (spaced image.entry.bytes.now image.entry.len 4 2 (first * 8 + shift) count) out.old at out.new result }
-{
-    let before = (count - 1) / 2;
-    let kind = ByteDigits::Hex;
-    let next = put_shifted(out, at, kind, image, first, shift, before);
-    let byte = image.read_across(first + before, shift, 8);
-    put_pair(out, next, byte, count - before * 2)
+    before: usize,
+    last: usize,
+    ghost few: { (shift < 8) × (0 < last) × (last ≤ 2) },
+    ghost inside: { ((first + before) * 8 + shift + 8 ≤ image.len) × (first + before + 1 < length image.bytes.now) },
+}
+
+impl<'a> DigitPairs<'a> {
+    // `count` digits from `from` on, where they are such pairs.
+    fn new(image: Image<'a>, from: BitOffset, count: usize) -> Option<DigitPairs<'a>>
+        requires { (from.0 < 2 ^ 32) × (count < 2 ^ 32) }
+        ensures { IfSome result (λ p. (p.image ≡ image.entry) × (p.first * 8 + p.shift ≡ from.0) × (p.before * 2 + p.last ≡ count)) }
+    {
+        let before = count.checked_sub(1)? / 2;
+        let first = from.byte();
+        let shift = from.shift();
+        let end = first + before;
+        if image.len < end * 8 + shift + 8 || image.bytes.len() <= end + 1 {
+            return None;
+        }
+        Some(DigitPairs {
+            image,
+            first,
+            shift,
+            before,
+            last: count - before * 2,
+        })
+    }
+
+    // Stores them, with a space between each two.
+    fn put(self, out: &mut [u8], at: usize) -> usize
+        requires { at + length (spaced self.image.bytes.now self.image.len 4 2 (self.first * 8 + self.shift) (self.before * 2 + self.last)) ≤ length out.old }
+        ensures { Writes (spaced self.entry.image.bytes.now self.entry.image.len 4 2 (self.entry.first * 8 + self.entry.shift) (self.entry.before * 2 + self.entry.last)) out.old at out.new result }
+    {
+        let DigitPairs {
+            image,
+            first,
+            shift,
+            before,
+            last,
+        } = self;
+        let next = put_shifted(out, at, ByteDigits::Hex, image, first, shift, before);
+        let byte = image.read_across(first + before, shift, 8);
+        put_pair(out, next, byte, last)
+    }
 }
 
 // Stores the contents of a span.
@@ -269,21 +293,20 @@ pub fn put_contents(
     ensures { Writes (contents options.given image.entry.bytes.now image.entry.len offset size) out.old at out.new result }
 {
     if paired(options) {
-        let start = offset as usize;
         let count = bitvec::parts(size as usize, 4);
-        if pairs_inside(image, BitOffset(start), count) {
-            return put_pairs(out, at, image, start / 8, start % 8, count);
+        if let Some(pairs) = DigitPairs::new(image, BitOffset::from(offset), count) {
+            return pairs.put(out, at);
         }
     }
     put_any(out, at, image, options, offset, size)
 }
 
-// How long `size` bits are in digits of `width` bits each, with a space between groups of `group`.
-fn spaced_length(size: u32, width: usize, group: usize) -> usize
-    requires { (0 < width) × (width ≤ 5) × (0 < group) }
-    ensures { (result ≡ (ceil_div size width - 1) / group + ceil_div size width) × (result < 2 ^ 34) }
+// How long `size` bits are in digits of a width, with a space between groups of `group`.
+fn spaced_length(size: u32, width: DigitWidth, group: usize) -> usize
+    requires { (0 < width.bits) × (0 < group) }
+    ensures { (result ≡ (ceil_div size width.bits - 1) / group + ceil_div size width.bits) × (result < 2 ^ 34) }
 {
-    let count = bitvec::parts(size as usize, width);
+    let count = bitvec::parts(size as usize, width.bits);
     count.saturating_sub(1) / group + count
 }
 
@@ -292,7 +315,7 @@ pub fn contents_length(options: ListingOptions, size: u32) -> usize
     ensures { ((bytes : List ℕ) (len offset : ℕ) → length (contents options.given bytes len offset size) ≡ result) × (result < 2 ^ 34) }
 {
     if paired(options) {
-        return spaced_length(size, 4, 2);
+        return spaced_length(size, DigitWidth::HEX, 2);
     }
     spaced_length(size, options.width, options.given.digits_per_group)
 }

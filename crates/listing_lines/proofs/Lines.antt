@@ -1,6 +1,6 @@
 -- Laws of the parts of a line: their lengths.
 -- Assumes nothing.
-use mathlib.Core.Path.{◌≡◌, ◌∙◌}
+use mathlib.Core.Path.{◌≡◌, refl, ap, ◌∙◌}
 use mathlib.Core.List.{List, ◌++◌}
 use mathlib.Core.Logic.{◌≢◌}
 use Prim.Native.Nat.{ℕ, ◌+◌, ◌-◌, ◌/◌, ◌%◌, max}
@@ -16,13 +16,14 @@ use Rattle.ordering.specs.Order.{absent}
 use Rattle.listing.specs.declared.FormatAnnotatedOptions.{FormatAnnotatedOptions}
 use Rattle.listing.specs.declared.Widths.{Widths}
 use Rattle.listing.specs.Listing.{contents, at_right, at_left, place, position, line_text}
+use Rattle.listing_lines.specs.Fits.{SpanFits}
 
 -- The number of a position, and the dashes in its place.
-pub place_absent : (o : FormatAnnotatedOptions) (width offset n : ℕ) (t : List ℕ) → offset ≡ absent → place o width offset n t ≡ at_right width t
+place_absent : (o : FormatAnnotatedOptions) (width offset n : ℕ) (t : List ℕ) → offset ≡ absent → place o width offset n t ≡ at_right width t
 unfolding place
 place_absent o width offset n t e = simp (eq-eqb offset absent e)
 
-pub place_present : (o : FormatAnnotatedOptions) (width offset n : ℕ) (t : List ℕ) → offset ≢ absent → place o width offset n t ≡ at_right width (number_text Lower o.addr_base n)
+place_present : (o : FormatAnnotatedOptions) (width offset n : ℕ) (t : List ℕ) → offset ≢ absent → place o width offset n t ≡ at_right width (number_text Lower o.addr_base n)
 unfolding place
 place_present o width offset n t e = simp (ne_eqb offset absent e)
 
@@ -33,6 +34,47 @@ position_parts o w offset =
     let byte = place o w.outp offset (offset / 8) (ascii "--") in
     let bit = place o w.outp_bit offset (offset % 8) (ascii "-") in
     omega (arith, length-append (ascii ":") bit, length-append byte (ascii ":" ++ bit), length-append (ascii " ") (byte ++ (ascii ":" ++ bit)))
+
+-- A position of dashes, and one of numbers that fit.
+pub position_absent : (o : FormatAnnotatedOptions) (w : Widths)
+    → position o w absent ≡ ascii " " ++ (at_right w.outp (ascii "--") ++ (ascii ":" ++ at_right w.outp_bit (ascii "-")))
+unfolding position
+position_absent o w = rw (place_absent o w.outp absent (absent / 8) (ascii "--") refl, place_absent o w.outp_bit absent (absent % 8) (ascii "-") refl)
+
+pub absent_length : (o : FormatAnnotatedOptions) (w : Widths) → length (position o w absent) ≡ 2 + max w.outp 2 + max w.outp_bit 1
+absent_length o w =
+    omega (
+      arith,
+      position_parts o w absent,
+      ap length (place_absent o w.outp absent (absent / 8) (ascii "--") refl),
+      ap length (place_absent o w.outp_bit absent (absent % 8) (ascii "-") refl),
+      padded_length 32 w.outp (ascii "--"),
+      padded_length 32 w.outp_bit (ascii "-"),
+    )
+
+pub position_present : (o : FormatAnnotatedOptions) (w : Widths) (offset : ℕ) → offset ≢ absent
+    → position o w offset
+    ≡ ascii " " ++ (at_right w.outp (number_text Lower o.addr_base (offset / 8)) ++ (ascii ":" ++ at_right w.outp_bit (number_text Lower o.addr_base (offset % 8))))
+unfolding position
+position_present o w offset e = rw (place_present o w.outp offset (offset / 8) (ascii "--") e, place_present o w.outp_bit offset (offset % 8) (ascii "-") e)
+
+pub present_length : (o : FormatAnnotatedOptions) (w : Widths) (offset address : ℕ) → offset ≢ absent → SpanFits o w offset address
+    → length (position o w offset) ≡ 2 + w.outp + w.outp_bit
+present_length o w offset address e f =
+    let byte = number_text Lower o.addr_base (offset / 8) in
+    let bit = number_text Lower o.addr_base (offset % 8) in
+    omega (
+      arith,
+      position_parts o w offset,
+      ap length (place_present o w.outp offset (offset / 8) (ascii "--") e),
+      ap length (place_present o w.outp_bit offset (offset % 8) (ascii "-") e),
+      padded_length 32 w.outp byte,
+      padded_length 32 w.outp_bit bit,
+      number_length Lower o.addr_base (offset / 8),
+      number_length Lower o.addr_base (offset % 8),
+      f.byte_fits e,
+      f.bit_fits e,
+    )
 
 -- A text at the left of a column has its width, or its own where that is larger.
 pub at_left_length : (width : ℕ) (t : List ℕ) → length (at_left width t) ≡ max width (length t)

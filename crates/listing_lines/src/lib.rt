@@ -3,17 +3,26 @@
 // there is room.
 #![tactic(auto)]
 
-ghost use Rattle.std.specs.Prelude.{◌≡◌, List, ℕ, ◌+◌, ◌/◌, ◌%◌, ◌≤◌, ◌<◌, ◌^◌, max, length};
+ghost use Rattle.std.specs.Prelude.{◌≡◌, List, ℕ, ◌+◌, ◌≤◌, ◌<◌, ◌^◌, max, length, unwrap_or};
 ghost use Rattle.output.specs.Writes.{Writes};
 ghost use Rattle.numbers.specs.declared.Letters.TheVariants.{Lower};
 ghost use Rattle.numbers.specs.Digits.{digit_count, number_text, padded};
-ghost use Rattle.listing.specs.Listing.{Narrow, contents, at_left, place, position, line_text};
-ghost use Rattle.listing_lines.specs.Fits.{NumberFits, SpanFits};
+ghost use Rattle.ordering.specs.Order.{absent};
+ghost use Rattle.listing.specs.Listing.{Narrow, contents, at_left, position, line_text};
+ghost use Rattle.listing_lines.specs.Fits.{SpanFits};
 
 use bitvec::Image;
-use listing::{ListedSpan, ListingOptions, Widths};
+use listing::{Layout, ListedSpan};
 use numbers::{Letters, Radix};
 use ordering::ABSENT;
+
+// A span of a listing, in columns that are as wide as its numbers.
+#[derive(Clone, Copy)]
+pub struct SpanLine {
+    pub layout: Layout,
+    pub span: ListedSpan,
+    pub ghost fits: { SpanFits layout.options.given layout.widths (unwrap_or span.offset absent) span.addr },
+}
 
 // Stores a number that fits in a width, filled with spaces on its left to it. Base 16, the most frequent
 // one, has a loop of its own, as in `listing::digit_count`.
@@ -27,170 +36,115 @@ fn put_number(out: &mut [u8], at: usize, value: u64, radix: Radix, width: usize)
     numbers::put_column(out, at, Letters::Lower, value, radix, b' ', width)
 }
 
-// Stores a number of a span's position, or dashes where its offset is absent.
-fn put_place(
-    out: &mut [u8],
-    at: usize,
-    options: ListingOptions,
-    width: usize,
-    offset: u32,
-    number: u32,
-    dashes: &[u8],
-) -> usize
-    requires { NumberFits options.given width offset number × (at + length (place options.given width offset number dashes.now) ≤ length out.old) }
-    ensures { Writes (place options.given width offset number dashes.now) out.old at out.new result }
-{
-    if offset == ABSENT {
-        return numbers::put_right(out, at, dashes, width);
+impl SpanLine {
+    // Stores the position of the span: its byte and the bit in it, or dashes where its offset is absent.
+    fn put_position(self, out: &mut [u8], at: usize) -> usize
+        requires { at + length (position self.layout.options.given self.layout.widths (unwrap_or self.span.offset absent)) ≤ length out.old }
+        ensures { Writes (position self.layout.options.given self.layout.widths (unwrap_or self.span.offset absent)) out.old at out.new result }
+    {
+        let Layout { options, widths } = self.layout;
+        let mut next = output::put(out, at, b' ');
+        let Some(offset) = self.span.offset else {
+            next = numbers::put_right(out, next, b"--", widths.outp);
+            next = output::put(out, next, b':');
+            return numbers::put_right(out, next, b"-", widths.outp_bit);
+        };
+        next = put_number(out, next, (offset / 8) as u64, options.radix, widths.outp);
+        next = output::put(out, next, b':');
+        put_number(
+            out,
+            next,
+            (offset % 8) as u64,
+            options.radix,
+            widths.outp_bit,
+        )
     }
-    put_number(out, at, number as u64, options.radix, width)
-}
 
-// The length of a number of a span's position, or of so many dashes.
-fn place_length(
-    options: ListingOptions,
-    width: usize,
-    offset: u32,
-    number: u32,
-    dashes: usize,
-) -> usize
-    requires { NumberFits options.given width offset number × (width ≤ 516) × (dashes ≤ 2) }
-    ensures { ((t : List ℕ) → length t ≡ dashes → length (place options.given width offset number t) ≡ result) × (result ≤ 516) }
-{
-    if offset == ABSENT {
-        return width.max(dashes);
+    // The length of the position.
+    fn position_length(self) -> usize
+        requires { Narrow self.layout.widths }
+        ensures { (result ≡ length (position self.layout.options.given self.layout.widths (unwrap_or self.span.offset absent))) × (result ≤ 600) }
+    {
+        let widths = self.layout.widths;
+        match self.span.offset {
+            Some(_) => 2 + widths.outp + widths.outp_bit,
+            None => 2 + widths.outp.max(2) + widths.outp_bit.max(1),
+        }
     }
-    width
-}
 
-// Stores the position of a span.
-fn put_position(
-    out: &mut [u8],
-    at: usize,
-    options: ListingOptions,
-    widths: Widths,
-    offset: u32,
-) -> usize
-    requires { NumberFits options.given widths.outp offset (offset / 8) × NumberFits options.given widths.outp_bit offset (offset % 8) × (at + length (position options.given widths offset) ≤ length out.old) }
-    ensures { Writes (position options.given widths offset) out.old at out.new result }
-{
-    let mut next = output::put(out, at, b' ');
-    next = put_place(out, next, options, widths.outp, offset, offset / 8, b"--");
-    next = output::put(out, next, b':');
-    put_place(
-        out,
-        next,
-        options,
-        widths.outp_bit,
-        offset,
-        offset % 8,
-        b"-",
-    )
-}
-
-// The length of the position of a span.
-fn position_length(options: ListingOptions, widths: Widths, offset: u32) -> usize
-    requires { NumberFits options.given widths.outp offset (offset / 8) × NumberFits options.given widths.outp_bit offset (offset % 8) × Narrow widths }
-    ensures { (result ≡ length (position options.given widths offset)) × (result ≤ 2000) }
-{
-    let byte = place_length(options, widths.outp, offset, offset / 8, 2);
-    let bit = place_length(options, widths.outp_bit, offset, offset % 8, 1);
-    2 + byte + bit
-}
-
-// Stores the logical address of a span.
-fn put_address(
-    out: &mut [u8],
-    at: usize,
-    options: ListingOptions,
-    width: usize,
-    offset: u32,
-    addr: u64,
-) -> usize
-    requires { NumberFits options.given width offset addr × (at + max width (digit_count options.given.addr_base addr) ≤ length out.old) }
-    ensures { Writes (padded 32 width (number_text Lower options.given.addr_base addr)) out.old at out.new result }
-{
-    if offset == ABSENT {
-        return numbers::put_padded(out, at, Letters::Lower, addr, options.radix, b' ', width);
+    // Stores the logical address of the span.
+    fn put_address(self, out: &mut [u8], at: usize) -> usize
+        requires { at + max self.layout.widths.addr (digit_count self.layout.options.given.addr_base self.span.addr) ≤ length out.old }
+        ensures { Writes (padded 32 self.layout.widths.addr (number_text Lower self.layout.options.given.addr_base self.span.addr)) out.old at out.new result }
+    {
+        let Layout { options, widths } = self.layout;
+        let addr = self.span.addr;
+        match self.span.offset {
+            Some(_) => put_number(out, at, addr, options.radix, widths.addr),
+            None => numbers::put_padded(
+                out,
+                at,
+                Letters::Lower,
+                addr,
+                options.radix,
+                b' ',
+                widths.addr,
+            ),
+        }
     }
-    put_number(out, at, addr, options.radix, width)
-}
 
-// The length of the logical address of a span: that of its column, but where the span has no offset.
-fn address_length(options: ListingOptions, width: usize, offset: u32, addr: u64) -> usize
-    requires { NumberFits options.given width offset addr }
-    ensures { result ≡ max width (digit_count options.given.addr_base addr) }
-{
-    if offset == ABSENT {
-        let digits = listing::digit_count(addr, options.radix.value);
-        return width.max(digits);
+    // The length of the logical address: that of its column, but where the span has no offset.
+    fn address_length(self) -> usize
+        ensures { result ≡ max self.layout.widths.addr (digit_count self.layout.options.given.addr_base self.span.addr) }
+    {
+        let Layout { options, widths } = self.layout;
+        match self.span.offset {
+            Some(_) => widths.addr,
+            None => widths
+                .addr
+                .max(listing::digit_count(self.span.addr, options.radix.value)),
+        }
     }
-    width
-}
 
-// Stores the contents of a span at the left of their column.
-fn put_column(
-    out: &mut [u8],
-    at: usize,
-    image: Image,
-    options: ListingOptions,
-    width: usize,
-    offset: u32,
-    size: u32,
-) -> usize
-    requires { at + length (at_left width (contents options.given image.bytes.now image.len offset size)) ≤ length out.old }
-    ensures { Writes (at_left width (contents options.given image.entry.bytes.now image.entry.len offset size)) out.old at out.new result }
-{
-    let next = listing_contents::put_contents(out, at, image, options, offset, size);
-    let free = width.saturating_sub(listing_contents::contents_length(options, size));
-    output::put_fill(out, next, b' ', free)
-}
+    // Stores the contents of the span at the left of their column.
+    fn put_column(self, out: &mut [u8], at: usize, image: Image) -> usize
+        requires { at + length (at_left self.layout.widths.content (contents self.layout.options.given image.bytes.now image.len (unwrap_or self.span.offset absent) self.span.size)) ≤ length out.old }
+        ensures { Writes (at_left self.layout.widths.content (contents self.layout.options.given image.entry.bytes.now image.entry.len (unwrap_or self.span.offset absent) self.span.size)) out.old at out.new result }
+    {
+        let Layout { options, widths } = self.layout;
+        let ListedSpan { offset, size, .. } = self.span;
+        let from = offset.unwrap_or(ABSENT);
+        let next = listing_contents::put_contents(out, at, image, options, from, size);
+        let length = listing_contents::contents_length(options, size);
+        output::put_fill(out, next, b' ', widths.content.saturating_sub(length))
+    }
 
-// The length of the line of a span with an excerpt of `excerpt` bytes.
-pub fn line_length(
-    options: ListingOptions,
-    widths: Widths,
-    span: ListedSpan,
-    excerpt: usize,
-) -> usize
-    requires { Narrow widths × (excerpt ≤ 1048576) × SpanFits options.given widths span.offset span.addr }
-    ensures { ((bytes : List ℕ) (len : ℕ) (t : List ℕ) → length t ≡ excerpt → length (line_text options.given widths bytes len span.offset span.size span.addr t) ≡ result) × (result < 2 ^ 35) }
-{
-    let position = position_length(options, widths, span.offset);
-    let address = address_length(options, widths.addr, span.offset, span.addr);
-    let content = widths
-        .content
-        .max(listing_contents::contents_length(options, span.size));
-    position + address + content + excerpt + 10
-}
+    // The length of the line with an excerpt of `excerpt` bytes.
+    pub fn length(self, excerpt: usize) -> usize
+        requires { Narrow self.layout.widths × (excerpt ≤ 1048576) }
+        ensures { ((bytes : List ℕ) (len : ℕ) (t : List ℕ) → length t ≡ excerpt → length (line_text self.layout.options.given self.layout.widths bytes len (unwrap_or self.span.offset absent) self.span.size self.span.addr t) ≡ result) × (result < 2 ^ 35) }
+    {
+        let Layout { options, widths } = self.layout;
+        let position = self.position_length();
+        let address = self.address_length();
+        let content = widths
+            .content
+            .max(listing_contents::contents_length(options, self.span.size));
+        position + address + content + excerpt + 10
+    }
 
-// Stores the line of a span.
-pub fn put_line(
-    out: &mut [u8],
-    at: usize,
-    image: Image,
-    options: ListingOptions,
-    widths: Widths,
-    span: ListedSpan,
-    excerpt: &[u8],
-) -> usize
-    requires { SpanFits options.given widths span.offset span.addr × (at + length (line_text options.given widths image.bytes.now image.len span.offset span.size span.addr excerpt.now) ≤ length out.old) }
-    ensures { Writes (line_text options.given widths image.entry.bytes.now image.entry.len span.offset span.size span.addr excerpt.now) out.old at out.new result }
-{
-    let mut next = put_position(out, at, options, widths, span.offset);
-    next = output::put_all(out, next, b" | ");
-    next = put_address(out, next, options, widths.addr, span.offset, span.addr);
-    next = output::put_all(out, next, b" | ");
-    next = put_column(
-        out,
-        next,
-        image,
-        options,
-        widths.content,
-        span.offset,
-        span.size,
-    );
-    next = output::put_all(out, next, b" ; ");
-    next = output::put_all(out, next, excerpt);
-    output::put(out, next, b'\n')
+    // Stores the line.
+    pub fn put(self, out: &mut [u8], at: usize, image: Image, excerpt: &[u8]) -> usize
+        requires { at + length (line_text self.layout.options.given self.layout.widths image.bytes.now image.len (unwrap_or self.span.offset absent) self.span.size self.span.addr excerpt.now) ≤ length out.old }
+        ensures { Writes (line_text self.layout.options.given self.layout.widths image.entry.bytes.now image.entry.len (unwrap_or self.span.offset absent) self.span.size self.span.addr excerpt.now) out.old at out.new result }
+    {
+        let mut next = self.put_position(out, at);
+        next = output::put_all(out, next, b" | ");
+        next = self.put_address(out, next);
+        next = output::put_all(out, next, b" | ");
+        next = self.put_column(out, next, image);
+        next = output::put_all(out, next, b" ; ");
+        next = output::put_all(out, next, excerpt);
+        output::put(out, next, b'\n')
+    }
 }

@@ -3,12 +3,9 @@ use Rattle.std.specs.Prelude.{Bool, not, ◌||◌, ◌&&◌, List, ℕ, eqb, ltb
 use Rattle.ordering.specs.Lists.{first}
 use Rattle.ordering.specs.Order.{absent}
 use Rattle.sources.specs.Sources.{source}
+pub use Rattle.sources.specs.Sources.{no_location}
 use Rattle.listing.specs.declared.FormatAnnotatedOptions.{FormatAnnotatedOptions}
 use Rattle.listing.specs.Listing.{Spans, shown}
-
--- The start that says that a span has no location.
-abbrev pub no_location : ℕ
-no_location = 18446744073709551615
 
 -- A file above 1, no location, a start after the end, or an end past the text.
 unfoldable pub misplaced : List ℕ → List ℕ → ℕ → ℕ → ℕ → Bool

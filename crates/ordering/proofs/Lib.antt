@@ -3,3 +3,4 @@ pub mod Flat
 pub mod Ordered
 pub mod Keys
 pub mod Checked
+pub mod Offsets

@@ -2,6 +2,10 @@
 use Rattle.std.specs.Prelude.{Bool, cond, ◌||◌, List, ℕ, ◌-◌, eqb, ltb, length, get_or, take, drop}
 use Rattle.ordering.specs.Lists.{first}
 
+-- The start that says that a span has no location.
+abbrev pub no_location : ℕ
+no_location = 18446744073709551615
+
 -- The text of a file: 0 is the firmware's, 1 the protocol's.
 unfoldable pub source : List ℕ → List ℕ → ℕ → List ℕ
 source firmware protocol file = cond (eqb file 0) firmware protocol

@@ -2,8 +2,12 @@
 // protocol's, which is file 1.
 #![tactic(auto)]
 
-ghost use Rattle.std.specs.Prelude.{◌≡◌, ◌≤◌, length};
+ghost use Rattle.std.specs.Prelude.{◌≡◌, ◌≤◌, max, length, fold};
 ghost use Rattle.sources.specs.Sources.{source, excerpt_of, bad_text};
+
+// The start, and the end, that say that a span has no location: a number, since the C interface lends
+// it.
+pub const NO_LOCATION: u64 = 18446744073709551615;
 
 // The two source texts as they are lent.
 #[derive(Clone, Copy)]
@@ -42,17 +46,20 @@ impl<'a> Sources<'a> {
     }
 }
 
-// Whether a text is too long or not ASCII, the cause of refusal 6. All bytes are looked at, without a
-// way out of the loop, so that many are looked at at once.
+// The highest byte of a text. All are looked at, without a way out, so that many are looked at at once.
+fn highest(text: &[u8]) -> u8
+    ensures { result ≡ fold max 0 text.now }
+{
+    text.iter().fold(0, |most, &byte| most.max(byte))
+}
+
+// Whether a text is too long or not ASCII, the cause of refusal 6.
+#[tactic(auto, unfolding(crate::specs::Sources::bad_text))]
 pub fn bad_text(text: &[u8]) -> bool
     ensures { result ≡ bad_text text.now }
 {
     if 1048576 < text.len() {
         return true;
     }
-    let mut highest: u8 = 0;
-    for &byte in text {
-        highest = highest.max(byte);
-    }
-    127 < highest
+    127 < highest(text)
 }

@@ -1,14 +1,13 @@
--- What the core's numbers say of a record: a present offset never reads as absent, refusal 3 is that of the records themselves, and the record of
--- numbers has these numbers.
+-- What the core's numbers say of a record: a present offset never reads as absent, and refusal 3 is that of the records themselves.
 -- Assumes nothing.
 use mathlib.Core.Path.{◌≡◌, refl, sym, ap, ◌∙◌}
-use mathlib.Core.Bool.{Bool, true, false}
+use mathlib.Core.Bool.{Bool}
 use mathlib.Core.List.{List}
-use Prim.Native.Nat.{ℕ, zero, suc, ◌+◌, ◌<◌, ◌≤◌, min}
+use Prim.Native.Nat.{ℕ, zero, suc, ◌+◌, ◌<◌, min}
 use native.Mathlib.Omega.{arith}
-use lib.Dec.{eqb, ltb}
+use lib.Dec.{ltb}
 use lib.ListN.{length, get_or}
-use borrow.Author.Tests.{lt-ltb, ne_eqb, eqb-true, eqb-false}
+use borrow.Author.Tests.{lt-ltb, ne_eqb}
 use Rattle.output.proofs.Order.{by_order}
 use Rattle.bitvec.specs.Size.{max_bits}
 use Rattle.ordering.specs.Lists.{first}
@@ -17,7 +16,7 @@ use Rattle.ordering.proofs.Lists.{map_length}
 use Rattle.span_range.specs.Range.{bad_span, fault_at}
 use Rattle.std.specs.Prelude.{Option, None, Some}
 use Rattle.spans.specs.declared.Span.{Span}
-use Rattle.spans.specs.Spans.{offset_number, start_number, end_number, offset_from, location_from, offsets_of, sizes_of, ends_past}
+use Rattle.spans.specs.Spans.{offset_number, offsets_of, sizes_of, ends_past}
 use Rattle.spans.proofs.Copied.{no_span, number_at}
 
 -- Only an absent offset has the number of one.
@@ -46,27 +45,3 @@ fault_is xs =
     ap (first (λ p. bad_span (get_or (offsets_of xs) p 0) (get_or (sizes_of xs) p 0))) (map_length (λ s. offset_number s.offset) xs)
     ∙ first_same (λ p. bad_span (get_or (offsets_of xs) p 0) (get_or (sizes_of xs) p 0)) (λ p. ends_past (get_or xs p no_span).offset (get_or xs p no_span).size) (length xs)
     (λ p l. rw (← number_at (λ s. offset_number s.offset) xs p l, ← number_at (λ s. s.size) xs p l) (bad_is (get_or xs p no_span).offset (get_or xs p no_span).size))
-
--- The record of the core's numbers has these numbers; no location has its own end.
-by_eqb : {P : Type 0} (a b : ℕ) → (eqb a b ≡ true → P) → (eqb a b ≡ false → P) → P
-by_eqb {P = P} a b f g = go (eqb a b) refl
-  where
-    go : (t : Bool) → eqb a b ≡ t → P
-    go true e = f e
-    go false e = g e
-
-pub offset_back : (n : ℕ) → n ≤ absent → offset_number (offset_from n) ≡ n
-unfolding offset_from
-offset_back n h = by_eqb n absent (λ e. rw e (sym (eqb-true n absent e))) (λ e. rw e (differs (eqb-false n absent e)))
-  where
-    differs : (n ≡ absent → ⊥) → min n 4294967294 ≡ n
-    differs ne = by_order n absent (λ l. omega arith) (λ l. absurd (ne (omega arith)))
-
-pub start_back : (start end : ℕ) → start_number (location_from start end) ≡ start
-unfolding location_from
-start_back start end =
-    by_eqb start 18446744073709551615 (λ e. rw e (sym (eqb-true start 18446744073709551615 e))) (λ e. rw e refl)
-
-pub end_back : (start end : ℕ) → eqb start 18446744073709551615 ≡ false → end_number (location_from start end) ≡ end
-unfolding location_from
-end_back start end e = rw e refl

@@ -2,6 +2,8 @@
 use Rattle.std.specs.Prelude.{Bool, false, cond, Option, None, Some, List, map, ℕ, ◌+◌, min, eqb, ltb}
 use Rattle.bitvec.specs.Size.{max_bits}
 use Rattle.ordering.specs.Order.{absent}
+unfoldable pub use Rattle.ordering.specs.Order.{offset_from}
+use Rattle.sources.specs.Sources.{no_location}
 use Rattle.spans.specs.declared.Location.{Location}
 use Rattle.spans.specs.declared.Span.{Span}
 
@@ -10,21 +12,18 @@ abbrev pub offset_number : Option ℕ → ℕ
 offset_number (Some bits) = min bits 4294967294
 offset_number None = absent
 
--- No location is the Rust's: the largest number.
+-- No location is the Rust's, the largest number.
 abbrev pub start_number : Option Location → ℕ
 start_number (Some l) = l.start
-start_number None = 18446744073709551615
+start_number None = no_location
 
 abbrev pub end_number : Option Location → ℕ
 end_number (Some l) = l.end
-end_number None = 18446744073709551615
+end_number None = no_location
 
--- The other way: the offset and the location that the core's numbers stand for.
-unfoldable pub offset_from : ℕ → Option ℕ
-offset_from number = cond (eqb number absent) None (Some number)
-
+-- The other way: the location that the core's numbers stand for (`offset_from`, which `ordering` has, is the offset).
 unfoldable pub location_from : ℕ → ℕ → Option Location
-location_from start end = cond (eqb start 18446744073709551615) None (Some (record { start = start; end = end }))
+location_from start end = cond (eqb start no_location) None (Some (record { start = start; end = end }))
 
 -- The cause of refusal 3 in one record: a present offset plus size above 16,777,216 (proofs/Meaning: it is the core's, of these numbers).
 unfoldable pub ends_past : Option ℕ → ℕ → Bool

@@ -1,12 +1,26 @@
 // The numbers of the first records of a slice, in columns: at most one record more than a span list
 // may have, by which the core tells that a list is too long. Fixed memory: an array for each column,
-// and one count.
-ghost use Rattle.std.specs.Prelude.{◌≡◌, ◌≤◌, length, take};
+// and one count. The columns are fields of two structs, since a generic one may hold no array of its
+// type parameter.
+ghost use Rattle.std.specs.Prelude.{◌≡◌, ◌≤◌, length, take, map};
+ghost use Rattle.std.proofs.lemmas.List.Edits.{sets};
 
 use crate::Span;
 
 // How many records a column has room for.
 const ROOM: usize = 4097;
+
+// Copies a number of each record to the front of a column, as far as it has room.
+fn copy_column<T: Copy, F: Fn(Span) -> T>(spans: &[Span], column: &mut [T], number: F)
+    requires { F.IsAlwaysCallable number }
+    ensures { (w : Span → T) → ((s : Span) (r : T) → F.post number s r → r ≡ w s) → column.new ≡ sets column.old 0 (take (length column.old) (map w spans.now)) }
+{
+    let count = spans.len().min(column.len());
+    // By places: what is written through `iter_mut` of the column in step is not known to the proof.
+    for (i, &span) in spans[..count].iter().enumerate() {
+        column[i] = number(span);
+    }
+}
 
 // The offsets and sizes.
 #[derive(Drop)]
@@ -26,15 +40,12 @@ impl Columns {
     {
         let mut offsets: [u32; 4097] = [0; 4097];
         let mut sizes: [u32; 4097] = [0; 4097];
-        let first = &spans[..spans.len().min(ROOM)];
-        for (i, span) in first.iter().enumerate() {
-            offsets[i] = span.offset_number();
-            sizes[i] = span.size;
-        }
+        copy_column(spans, &mut offsets, |span| span.offset_number());
+        copy_column(spans, &mut sizes, |span| span.size);
         Columns {
             offsets,
             sizes,
-            count: first.len(),
+            count: spans.len().min(ROOM),
         }
     }
 
@@ -73,19 +84,16 @@ impl ListingColumns {
         let mut files: [u8; 4097] = [0; 4097];
         let mut starts: [u64; 4097] = [0; 4097];
         let mut ends: [u64; 4097] = [0; 4097];
-        let first = &spans[..spans.len().min(ROOM)];
-        for (i, span) in first.iter().enumerate() {
-            addrs[i] = span.addr;
-            files[i] = span.file_handle;
-            starts[i] = span.start();
-            ends[i] = span.end();
-        }
+        copy_column(spans, &mut addrs, |span| span.addr);
+        copy_column(spans, &mut files, |span| span.file_handle);
+        copy_column(spans, &mut starts, |span| span.start());
+        copy_column(spans, &mut ends, |span| span.end());
         ListingColumns {
             addrs,
             files,
             starts,
             ends,
-            count: first.len(),
+            count: spans.len().min(ROOM),
         }
     }
 

@@ -8,9 +8,7 @@ ghost use Rattle.spans.specs.Spans.{offset_number, start_number, end_number, off
 pub mod columns;
 
 use ordering::ABSENT;
-
-// The start and the end of no location, as in the Rust.
-const NO_LOCATION: u64 = 18446744073709551615;
+use sources::NO_LOCATION;
 
 // A start and an end in a source text.
 #[derive(Clone, Copy, PartialEq, Eq)]
@@ -30,14 +28,6 @@ pub struct Span {
     pub location: Option<Location>,
 }
 
-// The offset that a number of the core stands for.
-#[tactic(auto, unfolding(crate::specs::Spans::offset_from))]
-fn offset_of(number: u32) -> Option<u32>
-    ensures { result ≡ offset_from number }
-{
-    (number != ABSENT).then_some(number)
-}
-
 // The location that two numbers of the core stand for.
 #[tactic(auto, unfolding(crate::specs::Spans::location_from))]
 fn location_of(start: u64, end: u64) -> Option<Location>
@@ -51,7 +41,7 @@ impl Span {
     pub fn new(offset: u32, size: u32, addr: u64, file_handle: u8, start: u64, end: u64) -> Span
         ensures { result ≡ record { offset = offset_from offset; size = size; addr = addr; file_handle = file_handle; location = location_from start end } }
     {
-        let offset = offset_of(offset);
+        let offset = ordering::offset_of(offset);
         let location = location_of(start, end);
         Span {
             offset,
@@ -67,29 +57,20 @@ impl Span {
     pub fn offset_number(self) -> u32
         ensures { result ≡ offset_number self.offset }
     {
-        match self.offset {
-            Some(bits) => bits.min(ABSENT - 1),
-            None => ABSENT,
-        }
+        self.offset.map_or(ABSENT, |bits| bits.min(ABSENT - 1))
     }
 
     // The start as the core's number.
     pub fn start(self) -> u64
         ensures { result ≡ start_number self.location }
     {
-        match self.location {
-            Some(location) => location.start,
-            None => NO_LOCATION,
-        }
+        self.location.map_or(NO_LOCATION, |location| location.start)
     }
 
     // The end as the core's number.
     pub fn end(self) -> u64
         ensures { result ≡ end_number self.location }
     {
-        match self.location {
-            Some(location) => location.end,
-            None => NO_LOCATION,
-        }
+        self.location.map_or(NO_LOCATION, |location| location.end)
     }
 }

@@ -5,21 +5,23 @@ use Rattle.bitvec.proofs.Size.{ceil_most}
 use Rattle.listing_contents.proofs.Pairs.{paired_contents}
 use Rattle.listing_contents.proofs.put_contents.Goals as goal
 
-pub pairs_inside-requires : goal.pairs_inside-requires
-pairs_inside-requires c =
+pub new-requires : goal.new-requires
+new-requires c =
     let size = c.args.size in
-    (omega arith, omega (arith, c.parts-count.ensures, ceil_most size 4 (omega arith)))
+    (omega (arith, c.from.ensures), omega (arith, c.parts-count.ensures, ceil_most size 4 (omega arith)))
 
-pub put_pairs-requires-clause-room : goal.put_pairs-requires-clause-room
-put_pairs-requires-clause-room c =
+pub put-requires : goal.put-requires
+put-requires c =
     let a = c.args in
+    let p = c.in-Some.ensures in
     let kind = c.paired.ensures c.if-paired.true in
     let same = paired_contents a.options.given a.image.bytes.now a.image.len a.offset a.size kind.0 kind.1 in
-    rw (c.parts-count.ensures, ← same) c.requires
+    rw (p.0, p.1, p.2, c.from.ensures, c.parts-count.ensures, ← same) c.requires
 
-pub returns-then-pairs_inside : goal.returns-then-pairs_inside
-returns-then-pairs_inside c =
+pub returns-in-Some : goal.returns-in-Some
+returns-in-Some c =
     let a = c.args in
+    let p = c.in-Some.ensures in
     let kind = c.paired.ensures c.if-paired.true in
     let same = paired_contents a.options.given a.image.bytes.now a.image.len a.offset a.size kind.0 kind.1 in
-    rw (same, ← c.parts-count.ensures) c.put_pairs.ensures
+    rw same (rw (p.0, p.1, p.2, c.from.ensures, c.parts-count.ensures) at c.put.ensures)

@@ -9,7 +9,7 @@ use Rattle.listing_contents.proofs.spaced_length.Goals as goal
 pub overflow_add-result : goal.overflow_add-result
 overflow_add-result c =
     let few : (c.parts-count.result ≤ c.args.size) × (c.saturating_sub.result / c.args.group ≤ c.parts-count.result) = let a = c.args in (
-      omega (arith, c.parts-count.ensures, ceil_most a.size a.width (omega arith)),
+      omega (arith, c.parts-count.ensures, ceil_most a.size a.width.bits (omega arith)),
       omega (arith, c.saturating_sub.ensures, div-le_self c.saturating_sub.result a.group),
     ) in
     record { fits = omega (arith, few) }
@@ -17,7 +17,7 @@ overflow_add-result c =
 pub returns : goal.returns
 returns c =
     let few : (c.parts-count.result ≤ c.args.size) × (c.saturating_sub.result / c.args.group ≤ c.parts-count.result) = let a = c.args in (
-      omega (arith, c.parts-count.ensures, ceil_most a.size a.width (omega arith)),
+      omega (arith, c.parts-count.ensures, ceil_most a.size a.width.bits (omega arith)),
       omega (arith, c.saturating_sub.ensures, div-le_self c.saturating_sub.result a.group),
     ) in
     (rw (c.saturating_sub.ensures, c.parts-count.ensures), omega (arith, few))

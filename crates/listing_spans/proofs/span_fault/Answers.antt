@@ -10,7 +10,7 @@ use Rattle.listing_spans.proofs.span_fault.Goals as goal
 pub returns-then-faulty : goal.returns-then-faulty
 unfolding span_fault
 returns-then-faulty c =
-    (omega arith, sym (first_at _ (length c.args.columns.offsets.now) c.loop-p.p (omega arith) c.loop-p.invariant (sym (rw c.location.ensures at c.faulty.ensures) ∙ c.if-faulty.true)))
+    (omega arith, sym (first_at _ (length c.args.columns.offsets.now) c.loop-p.p (omega arith) c.loop-p.invariant (sym (c.faulty.ensures _ _ _ _ c.offset_of-offset.ensures c.location-location.ensures) ∙ c.if-faulty.true)))
 
 pub returns : goal.returns
 unfolding span_fault

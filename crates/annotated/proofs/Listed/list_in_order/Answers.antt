@@ -2,12 +2,11 @@
 -- Assumes nothing.
 use mathlib.Core.Path.{◌≡◌, ap}
 use mathlib.Core.List.{List, ◌++◌, flat_map}
-use Prim.Native.Nat.{ℕ, ◌+◌, ◌≤◌, ◌<◌}
+use Prim.Native.Nat.{ℕ, ◌+◌, ◌≤◌}
 use native.Mathlib.Omega.{arith}
 use lib.ListN.{length, length-append}
 use Rattle.output.proofs.Writes.{writes_then}
 use Rattle.outcome.proofs.Outcome.{exports_text, exports_no_room}
-use Rattle.ordering.specs.Lists.{Each}
 use Rattle.ordering.specs.Order.{in_order}
 use Rattle.ordering.proofs.Keys.{in_order_length, in_order_below}
 use Rattle.listing.specs.declared.FormatAnnotatedOptions.{FormatAnnotatedOptions}
@@ -44,6 +43,7 @@ returns-then-out-needed c =
     let w = c.column_widths-widths in
     let whole = made_length a.options.given w.result a.image.bytes.now a.image.len (lent a.spans.columns) a.sources.firmware.now a.sources.protocol.now c.args.places.now (rw (c.list.ensures.0, c.list.ensures.1) at w.ensures.measured) c.requires in
     let lines = c.lines_length-lines.ensures.0 a.image.bytes.now a.image.len in
+    let heading = c.heading_length.ensures.0 in
     exports_no_room (annotated_text a.options.given a.image.bytes.now a.image.len (lent a.spans.columns) a.sources.firmware.now a.sources.protocol.now) _ (omega arith) c.if-out-needed.true
 
 pub put_lines-requires-clause-places : goal.put_lines-requires-clause-places
@@ -61,3 +61,8 @@ returns c =
     exports_text {t = text} enough
     (rw (made a.options.given w.result a.image.bytes.now a.image.len (lent a.spans.columns) a.sources.firmware.now a.sources.protocol.now c.args.places.now measured c.requires)
     (writes_then c.put_heading-next.ensures c.put_lines.ensures))
+
+pub invariant_of-shown : goal.invariant_of-shown
+invariant_of-shown c =
+    let a = c.args.self in
+    record { wide = rw (c.list.ensures.0, c.list.ensures.1) at c.column_widths-widths.ensures.measured; sound = a.sound }

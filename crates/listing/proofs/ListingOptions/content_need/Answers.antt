@@ -13,7 +13,7 @@ use Rattle.listing.proofs.ListingOptions.content_need.Goals as goal
 pub overflow_add-wide : goal.overflow_add-wide
 overflow_add-wide c =
     let o = c.args.self in
-    omega (arith, c.parts-digits.ensures, ceil_most c.args.size o.width o.few.0, div-le_self c.parts-digits.result o.given.digits_per_group)
+    omega (arith, c.parts-digits.ensures, ceil_most c.args.size o.width.bits o.some, div-le_self c.parts-digits.result o.given.digits_per_group)
 
 pub returns-then-wide-lt2 : goal.returns-then-wide-lt2
 unfolding content_digits

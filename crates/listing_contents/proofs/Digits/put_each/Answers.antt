@@ -13,14 +13,14 @@ loop-k-init c = (rw (spaced_none _ _ _ _ _) (writes_nothing _ _), refl)
 pub put_between-next-requires : goal.put_between-next-requires
 put_between-next-requires c =
     let a = c.args.self in
-    let room = spaced_room a.image.bytes.now a.image.len a.width a.group a.from.0 c.loop-k.k c.args.count c.loop-k-test.true in
+    let room = spaced_room a.image.bytes.now a.image.len a.width.bits a.group a.from.0 c.loop-k.k c.args.count c.loop-k-test.true in
     (a.some.0, omega arith)
 
 pub put_digit-next-requires : goal.put_digit-next-requires
 put_digit-next-requires c =
     let a = c.args.self in
-    let room = spaced_room a.image.bytes.now a.image.len a.width a.group a.from.0 c.loop-k.k c.args.count c.loop-k-test.true in
-    (omega (arith, stride c.loop-k.k c.args.count a.width c.loop-k-test.true), omega arith)
+    let room = spaced_room a.image.bytes.now a.image.len a.width.bits a.group a.from.0 c.loop-k.k c.args.count c.loop-k-test.true in
+    (omega (arith, stride c.loop-k.k c.args.count a.width.bits c.loop-k-test.true), omega arith)
 
 pub loop-k-preserved : goal.loop-k-preserved
 loop-k-preserved c =

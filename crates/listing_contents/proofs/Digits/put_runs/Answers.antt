@@ -16,21 +16,21 @@ pub put_run-next-requires : goal.put_run-next-requires
 put_run-next-requires c =
     let a = c.args.self in
     let l = c.loop-k in
-    let near = stride l.k c.args.count (a.group * a.width) c.loop-k-test.true in
+    let near = stride l.k c.args.count (a.group * a.width.bits) c.loop-k-test.true in
     let room = stride l.k c.args.count (a.group + 1) c.loop-k-test.true in
-    (a.few.1, omega arith, omega (arith, groups_length a.image.bytes.now a.image.len a.width a.group a.from.0 l.k))
+    (omega (arith, c.plus-from.ensures), omega (arith, groups_length a.image.bytes.now a.image.len a.width.bits a.group a.from.0 l.k))
 
 pub put-next-requires : goal.put-next-requires
 put-next-requires c =
     let a = c.args.self in
     let l = c.loop-k in
     let room = stride l.k c.args.count (a.group + 1) c.loop-k-test.true in
-    let run = run_length a.image.bytes.now a.image.len a.width (a.from.0 + l.k * (a.group * a.width)) a.group in
-    omega (arith, groups_length a.image.bytes.now a.image.len a.width a.group a.from.0 l.k)
+    let run = run_length a.image.bytes.now a.image.len a.width.bits c.plus-from.result.0 a.group in
+    omega (arith, groups_length a.image.bytes.now a.image.len a.width.bits a.group a.from.0 l.k)
 
 pub loop-k-preserved : goal.loop-k-preserved
 loop-k-preserved c =
     let l = c.loop-k in (
-      rw (groups_next _ _ _ _ _ _) (writes_then l.invariant.0 (writes_then c.put_run-next.ensures c.put-next.ensures)),
+      rw (groups_next _ _ _ _ _ _) (writes_then l.invariant.0 (writes_then (rw c.plus-from.ensures at c.put_run-next.ensures) c.put-next.ensures)),
       omega (arith, l.invariant.1, writes_length c.put_run-next.ensures, writes_length c.put-next.ensures),
     )
