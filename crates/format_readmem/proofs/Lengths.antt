@@ -18,11 +18,22 @@ use Rattle.rows.specs.declared.ByteDigits.{ByteDigits}
 use Rattle.rows.specs.declared.ByteDigits.TheVariants.{Binary, Hex}
 use Rattle.format_readmem.specs.Readmem.{line_text, line_at, readmem_text}
 
+-- How many digits a line of m bits has.
+abbrev pub line_digits : ByteDigits → ℕ → ℕ
+line_digits Binary m = m
+line_digits Hex m = ceil_div m 4
+
 -- A line has as many characters as digits.
-pub line_digits : (kind : ByteDigits) (bytes : List ℕ) (len i m : ℕ) → length (line_text kind bytes len i m) ≡ ceil_div m (digit_bits kind)
+pub line_digits_lem : (kind : ByteDigits) (bytes : List ℕ) (len i m : ℕ) → length (line_text kind bytes len i m) ≡ line_digits kind m
 unfolding line_text ceil_div
-line_digits Binary bytes len i m = run_length bytes len 1 i m ∙ omega arith
-line_digits Hex bytes len i m = line_length bytes len i m
+line_digits_lem Binary bytes len i m = run_length bytes len 1 i m
+line_digits_lem Hex bytes len i m = line_length bytes len i m
+
+-- They are as many as parts of a digit's bits.
+pub digits_parts : (kind : ByteDigits) (bytes : List ℕ) (len i m : ℕ) → length (line_text kind bytes len i m) ≡ ceil_div m (digit_bits kind)
+unfolding ceil_div
+digits_parts Binary bytes len i m = line_digits_lem Binary bytes len i m ∙ omega arith
+digits_parts Hex bytes len i m = line_digits_lem Hex bytes len i m
 
 -- A digit has some bits, so that there is at most one for each bit.
 pub digit_some : (kind : ByteDigits) → 0 < digit_bits kind
@@ -39,4 +50,4 @@ pub readmem_length : (kind : ByteDigits) (bytes : List ℕ) (len width : ℕ) �
 unfolding readmem_text line_at
 readmem_length kind bytes len width p =
     parts_length _ (λ m. ceil_div m (digit_bits kind) + 1) len width p
-    (λ i. length-append (line_text kind bytes len (i * width) (part_bits len width i)) (ascii "\n") ∙ rw line_digits)
+    (λ i. length-append (line_text kind bytes len (i * width) (part_bits len width i)) (ascii "\n") ∙ rw digits_parts)

@@ -48,7 +48,7 @@ impl<'a> Lines<'a> {
     }
 
     // Stores the digits of a line of `count` bits from `from` on.
-    #[tactic(auto, using(crate::proofs::Lengths::line_digits), unfolding(bitvec::specs::Size::ceil_div, crate::specs::Readmem::line_text))]
+    #[tactic(auto, using(crate::proofs::Lengths::digits_parts), unfolding(bitvec::specs::Size::ceil_div, crate::specs::Readmem::line_text))]
     fn put_digits(self, out: &mut [u8], at: usize, from: BitOffset, count: usize) -> usize
         requires { (from.0 + count < 2 ^ 64) × (at + length (line_text self.kind self.parts.good.image.bytes.now self.parts.good.image.len from.0 count) ≤ length out.old) }
         ensures { Writes (line_text self.entry.kind self.entry.parts.good.image.bytes.now self.entry.parts.good.image.len from.0 count) out.old at out.new result }
