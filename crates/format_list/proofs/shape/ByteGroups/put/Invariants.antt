@@ -2,16 +2,16 @@ use mathlib.Core.Path.{◌≡◌}
 use mathlib.Core.List.{◌++◌}
 use Prim.Native.Nat.{◌-◌, ◌*◌, ◌/◌, ◌<◌}
 use lib.ListN.{length}
-use Rattle.output.specs.Pieces.{leading, joined}
+use Rattle.output.specs.Pieces.{leading}
 use Rattle.output.specs.Writes.{Writes}
-use Rattle.format_list.specs.List.{group_text, between_groups}
-use Rattle.format_list.proofs.put_byte_groups.Given as goal
+use Rattle.format_list.specs.Groups.{between_of, groups_of}
+use Rattle.format_list.proofs.shape.ByteGroups.put.Given as goal
 
 abbrev pub invariant-loop-k : goal.invariant-loop-k
-invariant-loop-k l = let strings = between_groups l.options l.strings.between.now l.strings.between2.now in
+invariant-loop-k l = let g = l.self.list in
     (l.k < l.count)
     × (l.k / l.size * l.size ≡ l.k)
-    × Writes (joined strings (group_text l.options l.image.bytes.now l.image.len) l.k ++ leading strings l.k) l.initial.out l.at l.out l.next
+    × Writes (groups_of g l.k ++ leading (between_of g.options) l.k) l.initial.out l.at l.out l.next
     × (length l.out ≡ length l.initial.out)
 
 abbrev pub decreases-loop-k : goal.decreases-loop-k
