@@ -9,17 +9,15 @@ use native.Mathlib.Nat.{add-mul, suc-mul, div-add-mod', mod-lt, mod-one, mul-mod
 use lib.Arith.{digits_mod}
 use lib.Dec.{eqb}
 use lib.ListN.{length, take, drop, length-append}
-use lib.Seq.{sets}
 use borrow.Author.Tests.{eq-eqb, ne_eqb}
 use Rattle.output.specs.Pieces.{pieces, leading, joined}
-use Rattle.output.specs.Writes.{Writes}
 use Rattle.output.proofs.Order.{stride}
-use Rattle.output.proofs.Pieces.{pieces_none, pieces_next, pieces_append, pieces_equal, pieces_length, pieces_most}
+use Rattle.output.proofs.Pieces.{pieces_none, pieces_next, pieces_append, pieces_equal, pieces_most}
 use Rattle.text_parts.specs.Parts.{headed_text}
-use Rattle.text_parts.proofs.Parts.{part_length, headed_length, front, pieces_cut}
+use Rattle.text_parts.proofs.Parts.{part_length, headed_length, pieces_cut}
 use Rattle.digits.specs.Run.{run}
 use Rattle.digits.proofs.Run.{run_length}
-use Rattle.digit_lines.proofs.Lines.{run_lines}
+use Rattle.digit_lines.proofs.Lines.{run_front}
 use Rattle.digit_groups.specs.Groups.{string_at, group_at, groups_text, cut_text}
 
 -- Behind group q the first string stands before each group up to the next that m divides.
@@ -98,24 +96,16 @@ cut_room m between between2 s size k j n count l h b =
       headed_length s size (j + 1) between n (omega (arith, fewer, place)),
     )
 
--- The digits of n groups, at the start of an array, are cut into the groups.
-groups_cut : (l : List ℕ) (m : ℕ) (between between2 bytes : List ℕ) (len w size k n : ℕ) → n * size ≤ length l
-    → cut_text m between between2 (sets l 0 (run bytes len w (k * (size * w)) (n * size))) size k n ≡ groups_text m between between2 bytes len w size k n
+-- Digits that start with those of n groups are cut into the groups.
+pub groups_cut : (s : List ℕ) (m : ℕ) (between between2 bytes : List ℕ) (len w size k n : ℕ) → take (n * size) s ≡ run bytes len w (k * (size * w)) (n * size)
+    → cut_text m between between2 s size k n ≡ groups_text m between between2 bytes len w size k n
 unfolding cut_text groups_text group_at
-groups_cut l m between between2 bytes len w size k n h =
+groups_cut s m between between2 bytes len w size k n e =
     let f : ℕ → List ℕ = λ j. run bytes len w (k * (size * w) + j * (size * w)) size in
-    let digits : run bytes len w (k * (size * w)) (n * size) ≡ pieces f n = run_lines bytes len w (k * (size * w)) size n in
-    let long = pieces_length f size n (λ j b. run_length bytes len w (k * (size * w) + j * (size * w)) size) in
-    rw (digits, front l (pieces f n) (omega (arith, long)))
-    (pieces_equal _ _ n
+    ap (λ (t : List ℕ). cut_text m between between2 t size k n) (run_front s bytes len w (k * (size * w)) size n e)
+    ∙ pieces_equal _ _ n
     (λ j b.
-    rw (pieces_cut f size n (drop (length (pieces f n)) l) (λ i d. run_length bytes len w (k * (size * w) + i * (size * w)) size) j b, add-mul k j (size * w))))
-
--- So are digits that were written there.
-pub groups_copied : {l₀ l₁ : List ℕ} {r : ℕ} (m : ℕ) (between between2 bytes : List ℕ) (len w size k n : ℕ) → n * size ≤ length l₀
-    → Writes (run bytes len w (k * (size * w)) (n * size)) l₀ 0 l₁ r
-    → cut_text m between between2 l₁ size k n ≡ groups_text m between between2 bytes len w size k n
-groups_copied {l₀} m between between2 bytes len w size k n h p = rw p.stored (groups_cut l₀ m between between2 bytes len w size k n h)
+    rw (pieces_cut f size n (drop (n * size) s) (λ i d. run_length bytes len w (k * (size * w) + i * (size * w)) size) j b, add-mul k j (size * w)))
 
 -- More groups behind the first k.
 pub joined_groups : (m : ℕ) (between between2 bytes : List ℕ) (len w size k n : ℕ)

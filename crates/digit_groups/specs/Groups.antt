@@ -2,7 +2,7 @@
 use Rattle.std.specs.Prelude.{cond, List, ◌++◌, ℕ, ◌+◌, ◌*◌, ◌%◌, eqb, take, drop}
 use Rattle.output.specs.Pieces.{pieces, leading}
 use Rattle.digits.specs.Run.{run}
-use Rattle.digit_groups.specs.declared.shape.DigitGroups.{DigitGroups}
+use Rattle.digit_lines.specs.declared.groups.DigitGroups.{DigitGroups}
 use Rattle.digit_groups.specs.declared.shape.Strings.{Strings}
 
 -- The string before group k: the second where m divides k, and else the first.
@@ -26,10 +26,10 @@ abbrev pub strings_of : Strings → ℕ → List ℕ
 strings_of t = string_at t.every t.between.now t.between2.now
 
 abbrev pub groups_of : DigitGroups → ℕ → List ℕ
-groups_of g = group_at g.image.bytes.now g.image.len g.width g.size
+groups_of g = group_at g.image.bytes.now g.image.len g.width.bits g.size
 
 abbrev pub groups_written : Strings → DigitGroups → ℕ → ℕ → List ℕ
-groups_written t g = groups_text t.every t.between.now t.between2.now g.image.bytes.now g.image.len g.width g.size
+groups_written t g = groups_text t.every t.between.now t.between2.now g.image.bytes.now g.image.len g.width.bits g.size
 
 abbrev pub cut_written : Strings → List ℕ → ℕ → ℕ → ℕ → List ℕ
 cut_written t = cut_text t.every t.between.now t.between2.now

@@ -8,7 +8,8 @@ ghost use Rattle.output.specs.Writes.{Writes};
 ghost use Rattle.digit_groups.specs.Groups.{strings_of, groups_of, groups_written, cut_written};
 
 use bitvec::BitOffset;
-pub use shape::{DigitGroups, Strings};
+pub use digit_lines::DigitGroups;
+pub use shape::Strings;
 
 mod shape;
 
@@ -68,16 +69,13 @@ fn put_block(
     k: usize,
     count: usize,
 ) -> usize
-    requires small { (0 < strings.every) × (count * groups.size ≤ 1024) × (k + count < 2 ^ 64) × ((k + count) * (groups.size * groups.width) < 2 ^ 64) }
+    requires small { (0 < strings.every) × (count * groups.size ≤ 1024) × (k + count < 2 ^ 64) × ((k + count) * (groups.size * groups.width.bits) < 2 ^ 64) }
     requires room { at + length (groups_written strings groups k count) ≤ length out.old }
     ensures { Writes (groups_written strings.entry groups.entry k count) out.old at out.new result }
 {
-    let size = groups.size;
-    let width = groups.width;
-    let mut digits = [0; 1024];
-    let from = BitOffset(k * (size * width));
-    digits::put_run(&mut digits, 0, groups.image, width, from, count * size);
-    put_cut(out, at, &digits, size, strings, k, count)
+    let from = BitOffset(k * (groups.size * groups.width.bits));
+    let digits = groups.block(from, count);
+    put_cut(out, at, &digits, groups.size, strings, k, count)
 }
 
 // Stores `count` groups, block by block.
@@ -88,7 +86,7 @@ fn put_blocks(
     strings: Strings,
     count: usize,
 ) -> usize
-    requires small { (0 < count → 0 < strings.every) × (count * (groups.size * groups.width) < 2 ^ 64) }
+    requires small { (0 < count → 0 < strings.every) × (count * (groups.size * groups.width.bits) < 2 ^ 64) }
     requires room { at + length (joined (strings_of strings) (groups_of groups) count) ≤ length out.old }
     ensures { Writes (joined (strings_of strings.entry) (groups_of groups.entry) count) out.old at out.new result }
 {
@@ -110,7 +108,7 @@ pub fn put_groups(
     strings: Strings,
     count: usize,
 ) -> usize
-    requires small { (0 < count → 0 < strings.every) × (count * (groups.size * groups.width) < 2 ^ 64) }
+    requires small { (0 < count → 0 < strings.every) × (count * (groups.size * groups.width.bits) < 2 ^ 64) }
     requires room { at + length (joined (strings_of strings) (groups_of groups) count) ≤ length out.old }
     ensures { Writes (joined (strings_of strings.entry) (groups_of groups.entry) count) out.old at out.new result }
 {

@@ -1,17 +1,17 @@
 -- Laws of lines of digits.
 -- Assumes nothing.
-use mathlib.Core.Path.{◌≡◌, ap, ◌∙◌}
+use mathlib.Core.Path.{◌≡◌, sym, ap, ◌∙◌}
 use mathlib.Core.List.{List, [], ◌∷◌, ◌++◌}
 use Prim.Native.Nat.{ℕ, ◌+◌, ◌*◌, ◌≤◌}
 use native.Mathlib.Omega.{arith}
 use native.Mathlib.Nat.{add-mul, mul_assoc}
-use lib.ListN.{length, length-append}
-use lib.Seq.{sets}
+use lib.ListN.{length, take, drop, length-append, take-append-drop}
+use lib.Seq.{take_at}
 use Rattle.output.specs.Pieces.{pieces}
 use Rattle.output.specs.Writes.{Writes}
 use Rattle.output.proofs.Pieces.{pieces_none, pieces_append, pieces_equal, pieces_length}
 use Rattle.text_parts.specs.Parts.{parts_text}
-use Rattle.text_parts.proofs.Parts.{parts_written, pieces_nested}
+use Rattle.text_parts.proofs.Parts.{front, parts_of_pieces, pieces_nested}
 use Rattle.digits.specs.Run.{digit_at, run}
 use Rattle.digits.proofs.Run.{run_length}
 use Rattle.digit_lines.specs.Lines.{lines_text}
@@ -45,16 +45,20 @@ run_lines bytes len w i size n =
     pieces_equal _ _ size
     (λ j l. ap (λ (x : ℕ). digit_at bytes len w x ∷ []) (rw (add-mul (k * size) j w, mul_assoc k size w) (omega arith))))
 
--- This run, at the start of an array, is cut into the lines.
-lines_cut : (l bytes : List ℕ) (len w i size tail n : ℕ) → n * size ≤ length l
-    → parts_text (sets l 0 (run bytes len w i (n * size))) size (tail ∷ []) n ≡ lines_text bytes len w i size tail n
-unfolding lines_text
-lines_cut l bytes len w i size tail n h =
-    rw (run_lines bytes len w i size n)
-    (parts_written l (λ k. run bytes len w (i + k * (size * w)) size) size n (tail ∷ []) (λ k b. run_length bytes len w (i + k * (size * w)) size) h)
+-- A text at the start of an array is what stands there.
+pub front_is : {t l l₁ : List ℕ} {r n : ℕ} → length t ≡ n → n ≤ length l → Writes t l 0 l₁ r → take n l₁ ≡ t
+front_is {t} {l} {n = n} e h w = rw (w.stored, front l t (omega (arith, e, h))) (take_at t (drop (length t) l) n e)
 
--- Digits that are written into an array and cut into lines from there.
-pub lines_copied : {l₀ l₁ out₀ out₁ : List ℕ} {at r₁ r₂ : ℕ} (bytes : List ℕ) (len w i size tail n : ℕ) → n * size ≤ length l₀
-    → Writes (run bytes len w i (n * size)) l₀ 0 l₁ r₁ → Writes (parts_text l₁ size (tail ∷ []) n) out₀ at out₁ r₂
-    → Writes (lines_text bytes len w i size tail n) out₀ at out₁ r₂
-lines_copied {l₀} bytes len w i size tail n h p q = rw (p.stored, lines_cut l₀ bytes len w i size tail n h) at q
+-- Digits that start with this run are the lines, and what stands behind.
+pub run_front : (s bytes : List ℕ) (len w i size n : ℕ) → take (n * size) s ≡ run bytes len w i (n * size)
+    → s ≡ pieces (λ k. run bytes len w (i + k * (size * w)) size) n ++ drop (n * size) s
+run_front s bytes len w i size n e =
+    sym (take-append-drop (n * size) s) ∙ ap (λ (t : List ℕ). t ++ drop (n * size) s) (e ∙ run_lines bytes len w i size n)
+
+-- So they are cut into the lines.
+pub lines_cut : (s bytes : List ℕ) (len w i size tail n : ℕ) → take (n * size) s ≡ run bytes len w i (n * size)
+    → parts_text s size (tail ∷ []) n ≡ lines_text bytes len w i size tail n
+unfolding lines_text
+lines_cut s bytes len w i size tail n e =
+    ap (λ (t : List ℕ). parts_text t size (tail ∷ []) n) (run_front s bytes len w i size n e)
+    ∙ parts_of_pieces (λ k. run bytes len w (i + k * (size * w)) size) size n (drop (n * size) s) (tail ∷ []) (λ k b. run_length bytes len w (i + k * (size * w)) size)

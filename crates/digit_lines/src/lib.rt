@@ -6,25 +6,26 @@ ghost use Rattle.output.specs.Writes.{Writes};
 ghost use Rattle.digit_lines.specs.Lines.{lines_text, block_lines};
 
 use bitvec::{BitOffset, Image};
+pub use groups::DigitGroups;
+use numbers::DigitWidth;
 
-// Stores `lines` lines of `size` digits each, whose digits have places in one array.
+mod groups;
+
+// Stores `lines` lines, from `from` on, whose digits have places in one array.
 fn put_block(
     out: &mut [u8],
     at: usize,
-    image: Image,
-    width: usize,
+    groups: DigitGroups,
     from: BitOffset,
-    size: usize,
     tail: u8,
     lines: usize,
 ) -> usize
-    requires small { (width ≤ 5) × (lines * size ≤ 1024) × (from.0 + lines * size * width < 2 ^ 64) }
-    requires room { at + lines * (size + 1) ≤ length out.old }
-    ensures { Writes (lines_text image.entry.bytes.now image.entry.len width from.0 size tail lines) out.old at out.new result }
+    requires small { (lines * groups.size ≤ 1024) × (from.0 + lines * groups.size * groups.width.bits < 2 ^ 64) }
+    requires room { at + lines * (groups.size + 1) ≤ length out.old }
+    ensures { Writes (lines_text groups.entry.image.bytes.now groups.entry.image.len groups.entry.width.bits from.0 groups.entry.size tail lines) out.old at out.new result }
 {
-    let mut digits = [0; 1024];
-    digits::put_run(&mut digits, 0, image, width, from, lines * size);
-    text_parts::put_parts(out, at, &digits, size, tail, lines)
+    let digits = groups.block(from, lines);
+    text_parts::put_parts(out, at, &digits, groups.size, tail, lines)
 }
 
 // How many lines of `size` digits a block has: eight or a multiple where they have places, so that the
@@ -40,37 +41,29 @@ pub fn block_lines(size: usize) -> usize
     most - most % 8
 }
 
-// Stores `count` lines of `size` digits of `width` bits each, from `from` on, and `tail` behind each.
+// Stores `count` lines of `size` digits of `width`, from `from` on, and `tail` behind each.
 pub fn put_lines(
     out: &mut [u8],
     at: usize,
     image: Image,
-    width: usize,
+    width: DigitWidth,
     from: BitOffset,
     size: usize,
     tail: u8,
     count: usize,
 ) -> usize
-    requires small { (width ≤ 5) × (0 < size) × (size ≤ 1024) × (from.0 + count * (size * width) < 2 ^ 64) }
+    requires small { (0 < size) × (size ≤ 1024) × (from.0 + count * (size * width.bits) < 2 ^ 64) }
     requires room { at + count * (size + 1) ≤ length out.old }
-    ensures { Writes (lines_text image.entry.bytes.now image.entry.len width from.0 size tail count) out.old at out.new result }
+    ensures { Writes (lines_text image.entry.bytes.now image.entry.len width.bits from.0 size tail count) out.old at out.new result }
 {
+    let groups = DigitGroups { image, width, size };
     let most = block_lines(size);
-    let start = from.0;
     let mut next = at;
+    // The first line of a block is computed with.
     for k in (0..count).step_by(most) {
         let lines = most.min(count - k);
-        let offset = start + k * (size * width);
-        next = put_block(
-            out,
-            next,
-            image,
-            width,
-            BitOffset(offset),
-            size,
-            tail,
-            lines,
-        );
+        let start = from.plus(k * (size * width.bits));
+        next = put_block(out, next, groups, start, tail, lines);
     }
     next
 }

@@ -3,17 +3,16 @@
 use mathlib.Core.Path.{◌≡◌, refl, sym, ap, ap₂, ◌∙◌}
 use mathlib.Core.List.{List, [], ◌++◌, append_assoc}
 use Prim.Native.Nat.{ℕ, zero, suc, ◌+◌, ◌-◌, ◌*◌, ◌/◌, ◌%◌, ◌<◌, ◌≤◌}
-use native.Mathlib.Nat.{zero-mul, suc-mul, mul-div_cancel}
 use native.Mathlib.Omega.{arith}
 use lib.ListN.{length, length-append, get_or, take, drop}
 use lib.Seq.{drop-drop, take-take}
 use borrow.Author.Tests.{lt-ltb}
-use Rattle.std.specs.Simd.{first_chunks}
 use Rattle.std.proofs.lemmas.List.{get_or-take, get_or-drop, length-take, length-drop, drop-take}
 use Rattle.bitvec.specs.Bits.{bit_at, bits_at, byte_at}
 use Rattle.bitvec.proofs.Words.{byte_whole}
 use Rattle.output.specs.Pieces.{pieces}
 use Rattle.output.proofs.Order.{stride}
+use Rattle.text_parts.proofs.Parts.{part_taken, all_taken}
 use Rattle.output.proofs.Pieces.{pieces_none, pieces_next, pieces_equal, pieces_length}
 use Rattle.numbers.specs.Digits.{byte_text}
 use Rattle.numbers.proofs.Digits.{digits_length}
@@ -74,10 +73,10 @@ unfolding slice_text
 slice_length kind bytes = bytes_length kind bytes (8 * length bytes) 0 (length bytes)
 
 -- A byte of a part.
-pub part_byte : (bytes : List ℕ) (len i n k : ℕ) → k < n → (i + n) * 8 ≤ len → get_or (take (i + n - i) (drop i bytes)) k 0 < 256
-    → byte_at bytes len (i + k) ≡ get_or (take (i + n - i) (drop i bytes)) k 0
-part_byte bytes len i n k p h l =
-    let same = get_or-take (i + n - i) (drop i bytes) k 0 (omega (arith, p)) ∙ get_or-drop i bytes k 0 in
+pub part_byte : (bytes : List ℕ) (len i n k : ℕ) (part : List ℕ) → part ≡ take n (drop i bytes) → k < n → (i + n) * 8 ≤ len → get_or part k 0 < 256
+    → byte_at bytes len (i + k) ≡ get_or part k 0
+part_byte bytes len i n k part is p h l =
+    let same : get_or part k 0 ≡ get_or bytes (i + k) 0 = rw is (get_or-take n (drop i bytes) k 0 p ∙ get_or-drop i bytes k 0) in
     byte_whole bytes len (i + k) (omega (arith, p, h)) (rw same at l) ∙ sym same
 
 -- A slice of one byte, of two and of four.
@@ -99,45 +98,35 @@ four_text kind s e h l m n =
     rw (e, byte_whole s 32 0 (omega arith) h, byte_whole s 32 1 (omega arith) l, byte_whole s 32 2 (omega arith) m, byte_whole s 32 3 (omega arith) n)
     (append_assoc (byte_digits kind (get_or s 0 0) ++ byte_digits kind (get_or s 1 0)) (byte_digits kind (get_or s 2 0)) (byte_digits kind (get_or s 3 0)))
 
--- A chunk of a slice.
-chunk_at : (n k : ℕ) (xs : List ℕ) (i : ℕ) (d : List ℕ) → i < k → get_or (first_chunks n k xs) i d ≡ take n (drop (i * n) xs)
-chunk_at n zero xs i d h = absurd (omega arith)
-chunk_at n (suc k) xs zero d h = rw zero-mul
-chunk_at n (suc k) xs (suc i) d h =
-    let place : n + i * n ≡ suc i * n = omega (arith, suc-mul i n) in
-    chunk_at n k (drop n xs) i d (omega arith) ∙ ap (take n) (drop-drop (i * n) n xs) ∙ rw place
+-- A part of n rows of m bytes that is taken row by row: a row that is row k, and t stands behind it.
+pub row_taken : (bytes : List ℕ) (i m n k : ℕ) (row t : List ℕ) {all : ℕ} {rest : List ℕ} → 0 < m → all ≡ n * m → i + all ≤ length bytes
+    → rest ≡ drop (k * m) (take all (drop i bytes)) → rest ≡ row ++ t → length row ≡ m
+    → (k < n) × (row ≡ take m (drop (i + k * m) bytes)) × (t ≡ drop ((k + 1) * m) (take all (drop i bytes)))
+row_taken bytes i m n k row t {all} p e h r split l =
+    let long : length (take all (drop i bytes)) ≡ n * m = omega (arith, e, h, length-take all (drop i bytes), length-drop i bytes) in
+    let taken = part_taken (take all (drop i bytes)) row t m n k p long r split l in
+    let room = stride k n m taken.0 in
+    let whole : k * m + (all - k * m) ≡ all = omega (arith, room, e) in
+    let place : 0 + k ≡ k = omega arith in (
+      taken.0,
+      rw place at taken.1
+          ∙ ap (take m) (rw whole at (drop-take (k * m) (all - k * m) (drop i bytes)))
+          ∙ take-take m (all - k * m) (drop (k * m) (drop i bytes)) (omega (arith, room, e))
+          ∙ ap (take m) (drop-drop (k * m) i bytes),
+      taken.2,
+    )
 
--- A row of a part of the bytes is a part of them.
-row_text : (kind : ByteDigits) (bytes : List ℕ) (len i m n k : ℕ) (d : List ℕ) → (i + n * m) * 8 ≤ len → i + n * m ≤ length bytes → k < n
-    → slice_text kind (get_or (first_chunks m n (take (n * m) (drop i bytes))) k d) ≡ bytes_text kind bytes len (i + k * m) m
-row_text kind bytes len i m n k d h l p =
-    let room = stride k n m p in
-    let all : k * m + (n * m - k * m) ≡ n * m = omega (arith, room) in
-    let chunk : get_or (first_chunks m n (take (n * m) (drop i bytes))) k d ≡ take m (drop (i + k * m) bytes) =
-    chunk_at m n (take (n * m) (drop i bytes)) k d p
-    ∙ ap (take m) (rw all at (drop-take (k * m) (n * m - k * m) (drop i bytes)))
-    ∙ take-take m (n * m - k * m) (drop (k * m) (drop i bytes)) (omega (arith, room))
-    ∙ ap (take m) (drop-drop (k * m) i bytes) in
-    rw chunk (part_text kind bytes len (i + k * m) m (omega (arith, room, h)) (omega (arith, room, l)))
+-- Its digits.
+pub row_text : (kind : ByteDigits) (bytes : List ℕ) (len i m n k : ℕ) (row : List ℕ) {all : ℕ} → all ≡ n * m → (i + all) * 8 ≤ len → i + all ≤ length bytes → k < n
+    → row ≡ take m (drop (i + k * m) bytes) → slice_text kind row ≡ bytes_text kind bytes len (i + k * m) m
+row_text kind bytes len i m n k row e h l p is =
+    rw is (part_text kind bytes len (i + k * m) m (omega (arith, stride k n m p, e, h)) (omega (arith, stride k n m p, e, l)))
 
--- The rows of a part: how many they are, and what each of them is.
-pub rows_count : (bytes : List ℕ) (i m n : ℕ) → 0 < m → i + n * m ≤ length bytes → length (take (i + n * m - i) (drop i bytes)) / m ≡ n
-rows_count bytes i m n s h =
-    let long : length (take (i + n * m - i) (drop i bytes)) ≡ n * m = omega (arith, length-take (i + n * m - i) (drop i bytes), length-drop i bytes) in
-    rw long (mul-div_cancel n s)
-
-pub row_is : (kind : ByteDigits) (bytes : List ℕ) (len i m n k : ℕ) (row : List ℕ) (rows : List (List ℕ)) → 0 < m → (i + n * m) * 8 ≤ len → i + n * m ≤ length bytes
-    → (let part = take (i + n * m - i) (drop i bytes) in rows ≡ first_chunks m (length part / m) part) → k < n → row ≡ get_or rows k row
-    → slice_text kind row ≡ bytes_text kind bytes len (i + k * m) m
-row_is kind bytes len i m n k row rows s h l chunks p is =
-    let size : i + n * m - i ≡ n * m = omega arith in
-    let all = rw (rows_count bytes i m n s l, size) at chunks in
-    ap (slice_text kind) (is ∙ ap (λ (chunks : List (List ℕ)). get_or chunks k row) all) ∙ row_text kind bytes len i m n k row h l p
-
--- So a row's digits are as many as those of m bytes.
-pub row_digits : (kind : ByteDigits) (bytes : List ℕ) (len i m : ℕ) (row : List ℕ) → slice_text kind row ≡ bytes_text kind bytes len i m
-    → length row * digits_per_byte kind ≡ m * digits_per_byte kind
-row_digits kind bytes len i m row e = omega (arith, slice_length kind row, bytes_length kind bytes len i m, ap length e)
+-- Behind the last row no whole one is left.
+pub all_rows : (bytes : List ℕ) (i m n k : ℕ) {all : ℕ} {rest : List ℕ} → all ≡ n * m → i + all ≤ length bytes
+    → rest ≡ drop (k * m) (take all (drop i bytes)) → length rest < m → k ≤ n → k ≡ n
+all_rows bytes i m n k {all} e h r short l =
+    all_taken (take all (drop i bytes)) m n k (omega (arith, e, h, length-take all (drop i bytes), length-drop i bytes)) r short l
 
 pub rows_none : (kind : ByteDigits) (bytes : List ℕ) (len i m : ℕ) (tail : List ℕ) → rows_text kind bytes len i m tail 0 ≡ []
 unfolding rows_text
@@ -156,6 +145,11 @@ rows_length kind bytes len i m tail n =
     pieces_length _ (m * digits_per_byte kind + length tail) n
     (λ k h. length-append (bytes_text kind bytes len (i + k * m) m) tail ∙ rw (bytes_length kind bytes len (i + k * m) m))
 
+-- Rows of no byte.
+pub rows_of_none : (kind : ByteDigits) (bytes : List ℕ) (len i : ℕ) (tail : List ℕ) (n : ℕ) → rows_text kind bytes len i 0 tail n ≡ pieces (λ k. tail) n
+unfolding rows_text
+rows_of_none kind bytes len i tail n = pieces_equal _ _ n (λ k h. ap (λ (t : List ℕ). t ++ tail) (bytes_none kind bytes len (i + k * 0)))
+
 -- One row of one byte more.
 pub singles_next : (kind : ByteDigits) (bytes : List ℕ) (len i : ℕ) (tail : List ℕ) (n : ℕ)
     → rows_text kind bytes len i 1 tail (n + 1) ≡ rows_text kind bytes len i 1 tail n ++ (byte_digits kind (byte_at bytes len (i + n)) ++ tail)
@@ -164,15 +158,11 @@ singles_next kind bytes len i tail n =
     let place : i + n * 1 + 0 ≡ i + n = omega arith in
     rw (rows_next kind bytes len i 1 tail n, place)
 
--- Two rows of one byte more, which are within the image.
-pub singles_two : (kind : ByteDigits) (bytes : List ℕ) (len i : ℕ) (tail : List ℕ) (n : ℕ)
-    → (i + n * 2 + 2) * 8 ≤ len → get_or bytes (i + n * 2) 0 < 256 → get_or bytes (i + n * 2 + 1) 0 < 256
-    → rows_text kind bytes len i 1 tail ((n + 1) * 2)
-    ≡ rows_text kind bytes len i 1 tail (n * 2) ++ ((byte_digits kind (get_or bytes (i + n * 2) 0) ++ tail) ++ (byte_digits kind (get_or bytes (i + n * 2 + 1) 0) ++ tail))
-singles_two kind bytes len i tail n h l m =
+-- Two rows of one byte more.
+pub singles_two : (kind : ByteDigits) (bytes : List ℕ) (len i : ℕ) (tail : List ℕ) (n a b : ℕ) → byte_at bytes len (i + n * 2) ≡ a → byte_at bytes len (i + n * 2 + 1) ≡ b
+    → rows_text kind bytes len i 1 tail ((n + 1) * 2) ≡ rows_text kind bytes len i 1 tail (n * 2) ++ ((byte_digits kind a ++ tail) ++ (byte_digits kind b ++ tail))
+singles_two kind bytes len i tail n a b first second =
     let step : (n + 1) * 2 ≡ n * 2 + 1 + 1 = omega arith in
     let place : i + (n * 2 + 1) ≡ i + n * 2 + 1 = omega arith in
-    let first = byte_whole bytes len (i + n * 2) (omega (arith, h)) l in
-    let second = byte_whole bytes len (i + n * 2 + 1) (omega (arith, h)) m in
     rw (step, singles_next kind bytes len i tail (n * 2 + 1), singles_next kind bytes len i tail (n * 2), place, first, second)
-    (append_assoc (rows_text kind bytes len i 1 tail (n * 2)) (byte_digits kind (get_or bytes (i + n * 2) 0) ++ tail) (byte_digits kind (get_or bytes (i + n * 2 + 1) 0) ++ tail))
+    (append_assoc (rows_text kind bytes len i 1 tail (n * 2)) (byte_digits kind a ++ tail) (byte_digits kind b ++ tail))

@@ -3,13 +3,15 @@
 // shown, so that none is tested here.
 #![tactic(auto)]
 
-ghost use Rattle.std.specs.Prelude.{IfSome, ◌≡◌, [], ◌∷◌, ◌++◌, ◌+◌, ◌*◌, ◌≤◌, ◌<◌, length};
+ghost use Rattle.std.specs.Prelude.{MatchOption, ◌≡◌, ◌≢◌, [], ◌∷◌, ◌++◌, ◌+◌, ◌*◌, ◌%◌, ◌≤◌, ◌<◌, length};
+ghost use Rattle.output.specs.Pieces.{pieces};
 ghost use Rattle.output.specs.Writes.{Writes};
+ghost use Rattle.rows.specs.declared.ByteDigits.{ByteDigits};
 ghost use Rattle.rows.specs.declared.ByteDigits.TheVariants.{Hex};
 ghost use Rattle.rows.specs.Rows.{digits_per_byte, digit_bits, byte_digits, bytes_text, slice_text, rows_text};
 
-use bitvec::Image;
-use numbers::Letters;
+use bitvec::WholeBytes;
+use numbers::{DigitWidth, Letters};
 
 // How a byte is written: a digit for each bit, or two hexadecimal digits.
 #[derive(Clone, Copy)]
@@ -22,7 +24,7 @@ impl ByteDigits {
     // The digits of a number of bits, where a byte has a whole number of them and they have a
     // function of their own.
     pub fn with_bits(bits: usize) -> Option<ByteDigits>
-        ensures { IfSome result (λ kind. bits ≡ digit_bits kind) }
+        ensures { MatchOption result ((kind : ByteDigits) → bits ≢ digit_bits kind) (λ kind. bits ≡ digit_bits kind) }
     {
         match bits {
             1 => Some(ByteDigits::Binary),
@@ -32,12 +34,12 @@ impl ByteDigits {
     }
 
     // How many bits a digit has.
-    pub fn bits(self) -> usize
-        ensures { result ≡ digit_bits self }
+    pub fn width(self) -> DigitWidth
+        ensures { result.bits ≡ digit_bits self }
     {
         match self {
-            ByteDigits::Binary => 1,
-            ByteDigits::Hex => 4,
+            ByteDigits::Binary => DigitWidth::BINARY,
+            ByteDigits::Hex => DigitWidth::HEX,
         }
     }
 
@@ -75,20 +77,12 @@ fn put_slice(out: &mut [u8], at: usize, kind: ByteDigits, bytes: &[u8]) -> usize
     next
 }
 
-// Stores `count` bytes of the image from byte `first` on.
-pub fn put_bytes(
-    out: &mut [u8],
-    at: usize,
-    kind: ByteDigits,
-    image: Image,
-    first: usize,
-    count: usize,
-) -> usize
-    requires inside { ((first + count) * 8 ≤ image.len) × (first + count ≤ length image.bytes.now) }
-    requires room { at + count * digits_per_byte kind ≤ length out.old }
-    ensures { Writes (bytes_text kind image.entry.bytes.now image.entry.len first count) out.old at out.new result }
+// Stores whole bytes of an image.
+pub fn put_bytes(out: &mut [u8], at: usize, kind: ByteDigits, bytes: WholeBytes) -> usize
+    requires { at + bytes.count * digits_per_byte kind ≤ length out.old }
+    ensures { Writes (bytes_text kind bytes.entry.image.bytes.now bytes.entry.image.len bytes.entry.first bytes.entry.count) out.old at out.new result }
 {
-    put_slice(out, at, kind, &image.bytes[first..first + count])
+    put_slice(out, at, kind, bytes.slice())
 }
 
 // Stores two bytes.
@@ -121,133 +115,78 @@ fn put_row(out: &mut [u8], at: usize, kind: ByteDigits, row: &[u8]) -> usize
     }
 }
 
-// Stores `count` rows of W bytes each, from byte `first` on, and `tail` behind each. Both lengths are
-// constants, so that the compiler leaves no test of them in the loop, and makes vector code of rows of
-// one byte.
-fn put_fixed<const W: usize, const T: usize>(
+// Stores the bytes in `count` rows of `width`, and `tail` behind each. It is put into its callers, so
+// that a width and the length of a tail that are numbers there are numbers of the loop, which leaves no
+// test of them in it, and makes vector code of rows of one byte.
+#[inline(always)]
+fn put_chunks(
     out: &mut [u8],
     at: usize,
     kind: ByteDigits,
-    image: Image,
-    first: usize,
-    tail: &[u8; T],
+    bytes: WholeBytes,
+    width: usize,
+    tail: &[u8],
     count: usize,
 ) -> usize
-    requires few { (0 < W) × (W ≤ 4) }
-    requires inside { ((first + count * W) * 8 ≤ image.len) × (first + count * W ≤ length image.bytes.now) }
-    requires room { at + count * (W * digits_per_byte kind + T) ≤ length out.old }
-    ensures { Writes (rows_text kind image.entry.bytes.now image.entry.len first W tail.now count) out.old at out.new result }
+    requires size { (0 < width) × (bytes.count ≡ count * width) }
+    requires room { at + count * (width * digits_per_byte kind + length tail.now) ≤ length out.old }
+    ensures { Writes (rows_text kind bytes.entry.image.bytes.now bytes.entry.image.len bytes.entry.first width tail.now count) out.old at out.new result }
 {
-    let (rows, _) = image.bytes[first..first + count * W].as_chunks::<W>();
     let mut next = at;
-    for row in rows {
+    for row in bytes.slice().chunks_exact(width) {
         next = put_row(out, next, kind, row);
         next = output::put_text(out, next, tail);
     }
     next
 }
 
-// Stores `count` bytes of the image from byte `first` on, and `tail` behind each.
-fn put_any(
-    out: &mut [u8],
-    at: usize,
-    kind: ByteDigits,
-    image: Image,
-    first: usize,
-    tail: &[u8],
-    count: usize,
-) -> usize
-    requires inside { ((first + count) * 8 ≤ image.len) × (first + count ≤ length image.bytes.now) }
-    requires room { at + count * (digits_per_byte kind + length tail.now) ≤ length out.old }
-    ensures { Writes (rows_text kind image.entry.bytes.now image.entry.len first 1 tail.now count) out.old at out.new result }
+// Stores rows of no byte: what stands behind each.
+fn put_tails(out: &mut [u8], at: usize, tail: &[u8], count: usize) -> usize
+    requires { at + count * length tail.now ≤ length out.old }
+    ensures { Writes (pieces (λ k. tail.now) count) out.old at out.new result }
 {
     let mut next = at;
-    for &byte in &image.bytes[first..first + count] {
-        next = put_digits(out, next, kind, byte);
+    for _ in 0..count {
         next = output::put_text(out, next, tail);
     }
     next
 }
 
-// Stores `count` rows of `width` bytes each, from byte `first` on, and `tail` behind each. The width
-// may be 0, so that the rows are no chunks of a slice.
-fn put_wide(
-    out: &mut [u8],
-    at: usize,
-    kind: ByteDigits,
-    image: Image,
-    first: usize,
-    width: usize,
-    tail: &[u8],
-    count: usize,
-) -> usize
-    requires inside { ((first + count * width) * 8 ≤ image.len) × (first + count * width ≤ length image.bytes.now) }
-    requires room { at + count * (width * digits_per_byte kind + length tail.now) ≤ length out.old }
-    ensures { Writes (rows_text kind image.entry.bytes.now image.entry.len first width tail.now count) out.old at out.new result }
+// Stores bytes in hexadecimal and a character behind each: by two, for lines of so few bytes that
+// vector code does not pay.
+pub fn put_by_twos(out: &mut [u8], at: usize, bytes: WholeBytes, tail: u8) -> usize
+    requires even { bytes.count % 2 ≡ 0 }
+    requires room { at + bytes.count * 3 ≤ length out.old }
+    ensures { Writes (rows_text Hex bytes.entry.image.bytes.now bytes.entry.image.len bytes.entry.first 1 (tail ∷ []) bytes.entry.count) out.old at out.new result }
 {
     let mut next = at;
-    for k in 0..count {
-        let place = first + k * width;
-        next = put_bytes(out, next, kind, image, place, width);
-        next = output::put_text(out, next, tail);
+    for pair in bytes.slice().chunks_exact(2) {
+        next = hex_pair::put_parted(out, next, pair[0], pair[1], tail);
     }
     next
 }
 
-// Stores twice `count` bytes in hexadecimal, from byte `first` on, and a character behind each: by two,
-// for lines of so few bytes that vector code does not pay.
-pub fn put_by_twos(
-    out: &mut [u8],
-    at: usize,
-    image: Image,
-    first: usize,
-    tail: u8,
-    count: usize,
-) -> usize
-    requires inside { ((first + count * 2) * 8 ≤ image.len) × (first + count * 2 ≤ length image.bytes.now) }
-    requires room { at + count * 6 ≤ length out.old }
-    ensures { Writes (rows_text Hex image.entry.bytes.now image.entry.len first 1 (tail ∷ []) (count * 2)) out.old at out.new result }
-{
-    let mut next = at;
-    // By places: an array of two bytes would be another name for the bytes at them.
-    for k in 0..count {
-        let place = first + k * 2;
-        next = hex_pair::put_parted(out, next, image.bytes[place], image.bytes[place + 1], tail);
-    }
-    next
-}
-
-// Stores `count` rows of `width` bytes each, from byte `first` on, and `tail` behind each. Rows of one
-// byte, and rows of two and of four with one character behind, have loops of their own, since they are
-// the most frequent ones.
+// Stores the bytes in `count` rows of `width`, and `tail` behind each.
 pub fn put_rows(
     out: &mut [u8],
     at: usize,
     kind: ByteDigits,
-    image: Image,
-    first: usize,
+    bytes: WholeBytes,
     width: usize,
     tail: &[u8],
     count: usize,
 ) -> usize
-    requires inside { ((first + count * width) * 8 ≤ image.len) × (first + count * width ≤ length image.bytes.now) }
+    requires size { bytes.count ≡ count * width }
     requires room { at + count * (width * digits_per_byte kind + length tail.now) ≤ length out.old }
-    ensures { Writes (rows_text kind image.entry.bytes.now image.entry.len first width tail.now count) out.old at out.new result }
+    ensures { Writes (rows_text kind bytes.entry.image.bytes.now bytes.entry.image.len bytes.entry.first width tail.now count) out.old at out.new result }
 {
     match (width, tail) {
-        (1, [a]) if 8 <= count => put_fixed::<1, 1>(out, at, kind, image, first, &[*a], count),
-        (1, [a, b]) if 8 <= count => put_fixed::<1, 2>(
-            out,
-            at,
-            kind,
-            image,
-            first,
-            &[*a, *b],
-            count,
-        ),
-        (1, _) => put_any(out, at, kind, image, first, tail, count),
-        (2, [a]) => put_fixed::<2, 1>(out, at, kind, image, first, &[*a], count),
-        (4, [a]) => put_fixed::<4, 1>(out, at, kind, image, first, &[*a], count),
-        _ => put_wide(out, at, kind, image, first, width, tail, count),
+        (0, _) => put_tails(out, at, tail, count),
+        (1, [a]) if 8 <= count => put_chunks(out, at, kind, bytes, 1, &[*a], count),
+        (1, [a, b]) if 8 <= count => put_chunks(out, at, kind, bytes, 1, &[*a, *b], count),
+        (1, _) => put_chunks(out, at, kind, bytes, 1, tail, count),
+        (2, [a]) => put_chunks(out, at, kind, bytes, 2, &[*a], count),
+        (4, [a]) => put_chunks(out, at, kind, bytes, 4, &[*a], count),
+        _ => put_chunks(out, at, kind, bytes, width, tail, count),
     }
 }

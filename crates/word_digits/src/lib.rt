@@ -1,14 +1,14 @@
-// The eight digits that a number ends with. Those of 2, 3 and 5 bits are computed in one word by fixed
-// shifts and masks, the first digit in its lowest byte, and stored at once.
+// The digits that a number ends with. Eight of 2, 3 and 5 bits are computed in one word by fixed shifts
+// and masks, the first digit in its lowest byte, and stored at once.
 #![tactic(auto)]
 
-ghost use Rattle.std.specs.Prelude.{◌≡◌, [], ◌∷◌, ◌+◌, ◌≤◌, ◌<◌, length};
+ghost use Rattle.std.specs.Prelude.{◌≡◌, [], ◌∷◌, ◌+◌, ◌*◌, ◌≤◌, ◌<◌, length};
 ghost use Rattle.output.specs.Writes.{Writes};
 ghost use Rattle.numbers.specs.Digits.{digits_of};
 ghost use Rattle.eight_chars.specs.Word.{low_bytes};
 ghost use Rattle.word_digits.specs.Packed.{packed};
 
-use numbers::Letters;
+use numbers::{DigitWidth, Letters};
 
 // Four numbers as the quarters of a word, the first lowest.
 fn pack(q0: u64, q1: u64, q2: u64, q3: u64) -> u64
@@ -69,34 +69,30 @@ fn five_word(word: u64) -> u64
     digits + 0x3030_3030_3030_3030 + letters * 39
 }
 
-// Stores the eight digits of `width` bits each that a number ends with, one by one.
-fn put_each(out: &mut [u8], at: usize, word: u64, width: usize) -> usize
-    requires { (width ≤ 5) × (at + 8 ≤ length out.old) }
-    ensures { Writes (digits_of width 8 word) out.old at out.new result }
+// Stores the `count` digits of `width` that a number ends with, one by one.
+pub fn put_digits(out: &mut [u8], at: usize, width: DigitWidth, value: u64, count: usize) -> usize
+    requires { (count * width.bits ≤ 64) × (at + count ≤ length out.old) }
+    ensures { Writes (digits_of width.bits count value) out.old at out.new result }
 {
-    let base: u64 = 1 << width as u64;
+    let base: u64 = 1 << width.bits as u64;
     let mut next = at;
-    for k in 0..8 {
-        let behind = (7 - k) * width;
-        let digit = ((word >> behind as u64) % base) as u8;
+    for k in (0..count).rev() {
+        let behind = (k * width.bits) as u64;
+        let digit = ((value >> behind) % base) as u8;
         next = output::put(out, next, numbers::digit_char(Letters::Lower, digit));
     }
     next
 }
 
-// Stores the eight digits of `width` bits each that a number ends with.
-pub fn put_eight(out: &mut [u8], at: usize, word: u64, width: usize) -> usize
-    requires { (width ≤ 5) × (at + 8 ≤ length out.old) }
-    ensures { Writes (digits_of width 8 word) out.old at out.new result }
+// Stores the eight digits of `width` that a number ends with.
+pub fn put_eight(out: &mut [u8], at: usize, word: u64, width: DigitWidth) -> usize
+    requires { at + 8 ≤ length out.old }
+    ensures { Writes (digits_of width.bits 8 word) out.old at out.new result }
 {
-    if width == 2 {
-        return eight_chars::put_word(out, at, two_word(word));
+    match width.bits {
+        2 => eight_chars::put_word(out, at, two_word(word)),
+        3 => eight_chars::put_word(out, at, three_word(word)),
+        5 => eight_chars::put_word(out, at, five_word(word)),
+        _ => put_digits(out, at, width, word, 8),
     }
-    if width == 3 {
-        return eight_chars::put_word(out, at, three_word(word));
-    }
-    if width == 5 {
-        return eight_chars::put_word(out, at, five_word(word));
-    }
-    put_each(out, at, word, width)
 }

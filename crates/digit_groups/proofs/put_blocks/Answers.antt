@@ -1,7 +1,7 @@
 -- `digit_groups::put_blocks` meets its contract: before block k its groups are written, and the block starts behind them.
 -- Assumes nothing.
 use mathlib.Core.Path.{◌≡◌, refl, ap}
-use Prim.Native.Nat.{◌+◌, ◌-◌, ◌*◌, ◌≤◌}
+use Prim.Native.Nat.{◌+◌, ◌*◌, ◌≤◌}
 use native.Mathlib.Omega.{arith}
 use native.Mathlib.Nat.{mul-le-mul_right}
 use lib.ListN.{length, length-append}
@@ -25,7 +25,7 @@ put_block-next-requires-clause-small c =
       c.requires.small.0 (omega (arith, c.loop-k-test.true)),
       omega (arith, fewer, c.block_lines-most.ensures.1),
       omega (arith, within),
-      omega (arith, mul-le-mul_right (g.size * g.width) within, c.requires.small.1),
+      omega (arith, mul-le-mul_right (g.size * g.width.bits) within, c.requires.small.1),
     )
 
 pub put_block-next-requires-clause-room : goal.put_block-next-requires-clause-room
@@ -39,9 +39,9 @@ put_block-next-requires-clause-room c =
       arith,
       l.invariant.1.next,
       l.invariant.2,
-      ap length (joined_groups t.every t.between.now t.between2.now g.image.bytes.now g.image.len g.width g.size l.k n),
+      ap length (joined_groups t.every t.between.now t.between2.now g.image.bytes.now g.image.len g.width.bits g.size l.k n),
       length-append (joined (strings_of t) (groups_of g) l.k) (groups_written t g l.k n),
-      joined_longer t.every t.between.now t.between2.now g.image.bytes.now g.image.len g.width g.size (l.k + n) c.args.count within,
+      joined_longer t.every t.between.now t.between2.now g.image.bytes.now g.image.len g.width.bits g.size (l.k + n) c.args.count within,
       c.requires.room,
     )
 
@@ -52,7 +52,7 @@ loop-k-preserved c =
     let l = c.loop-k in
     let whole : c.min-block.result ≡ c.block_lines-most.result = omega (arith, c.min-block.ensures) in (
       omega (arith, c.min-block.ensures),
-      rw (joined_groups t.every t.between.now t.between2.now g.image.bytes.now g.image.len g.width g.size l.k c.block_lines-most.result, ← whole)
+      rw (joined_groups t.every t.between.now t.between2.now g.image.bytes.now g.image.len g.width.bits g.size l.k c.block_lines-most.result, ← whole)
           (writes_then l.invariant.1 c.put_block-next.ensures),
       omega (arith, writes_length c.put_block-next.ensures, l.invariant.2),
     )
@@ -68,5 +68,5 @@ returns-2 c =
     let g = c.args.groups in
     let l = c.loop-k in
     let last : c.args.count ≡ l.k + c.min-block.result = omega (arith, c.min-block.ensures, c.loop-k-test.true) in
-    rw (last, joined_groups t.every t.between.now t.between2.now g.image.bytes.now g.image.len g.width g.size l.k c.min-block.result)
+    rw (last, joined_groups t.every t.between.now t.between2.now g.image.bytes.now g.image.len g.width.bits g.size l.k c.min-block.result)
     (writes_then l.invariant.1 c.put_block-next.ensures)

@@ -1,7 +1,5 @@
 -- `digit_groups::put_string` meets its contract: nothing before the first group, and else the string that has its place there.
 -- Assumes nothing.
-use mathlib.Core.Path.{◌≡◌}
-use Prim.Native.Nat.{◌-◌, ◌%◌, ◌<◌, ◌≤◌}
 use native.Mathlib.Omega.{arith}
 use borrow.Author.Tests.{eq-eqb}
 use Rattle.output.specs.Pieces.{leading}

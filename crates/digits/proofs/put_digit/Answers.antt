@@ -8,7 +8,7 @@ use Rattle.digits.proofs.put_digit.Goals as goal
 pub digit_char-requires : goal.digit_char-requires
 digit_char-requires c =
     let a = c.args in
-    omega (arith, c.read_bits-digit.ensures, bits_below a.image.bytes.now a.image.len a.from.0 a.width 5 c.requires.0)
+    omega (arith, c.read_bits-digit.ensures, bits_below a.image.bytes.now a.image.len a.from.0 a.width.bits 5 a.width.few)
 
 pub returns : goal.returns
 unfolding digit_at

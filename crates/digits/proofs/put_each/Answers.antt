@@ -11,4 +11,4 @@ loop-k-init c = (search rules, search rules, rw (run_none _ _ _ _) (writes_nothi
 
 pub loop-k-preserved : goal.loop-k-preserved
 loop-k-preserved c =
-    (search rules, search rules, rw (run_next _ _ _ _ _) (writes_then c.loop-k.invariant.2 c.put_digit-next.ensures), search rules)
+    (search rules, search rules, rw (run_next _ _ _ _ _, ← c.plus-from.ensures) (writes_then c.loop-k.invariant.2 c.put_digit-next.ensures), search rules)

@@ -6,7 +6,7 @@ use Rattle.digits.specs.Run.{run}
 use Rattle.digits.proofs.put_each.Given as goal
 
 abbrev pub invariant-loop-k : goal.invariant-loop-k
-invariant-loop-k l = (l.k ≤ l.count)
+invariant-loop-k l = (l.k ≤ l.digits.count)
     × (l.next ≡ l.at + l.k)
-    × Writes (run l.image.bytes.now l.image.len l.width l.from.0 l.k) l.initial.out l.at l.out l.next
+    × Writes (run l.digits.image.bytes.now l.digits.image.len l.digits.width.bits l.digits.from.0 l.k) l.initial.out l.at l.out l.next
     × (length l.out ≡ length l.initial.out)

@@ -8,5 +8,5 @@ use Rattle.digits.proofs.put_words.Given as goal
 abbrev pub invariant-loop-k : goal.invariant-loop-k
 invariant-loop-k l = (l.k ≤ l.count)
     × (l.next ≡ l.at + l.k * 8)
-    × Writes (run l.image.bytes.now l.image.len l.width (l.first * 8 + l.shift) (l.k * 8)) l.initial.out l.at l.out l.next
+    × Writes (run l.digits.image.bytes.now l.digits.image.len l.digits.width.bits l.digits.from.0 (l.k * 8)) l.initial.out l.at l.out l.next
     × (length l.out ≡ length l.initial.out)

@@ -20,12 +20,12 @@ pub returns : goal.returns
 returns c =
     let a = c.args in
     let bytes = a.image.bytes.now in
-    let i = a.from in
+    let i = a.from.0 in
     let few : a.count ≤ 56 = c.if-count-gt56.false in
     let behind = 64 - (i % 8 + a.count) in
     let place : i / 8 * 8 + i % 8 ≡ i = omega arith in
     let all : i % 8 + a.count + behind ≡ 64 = omega (arith, few) in
-    let reach = c.if-whole_bytes-from.false in
+    let reach = rw c.byte.ensures at c.if-whole_bytes-byte.false in
     let least = c.whole_bytes.ensures in
     let cut = bits_cut bytes a.image.len (8 * length bytes) (i / 8 * 8) (i % 8) a.count behind (omega (arith, few, reach, least)) (omega (arith, few, reach, least)) in
-    (few, rw (base a.count few, c.read_word-word.ensures) (sym (rw (all, place) at cut)))
+    (few, rw (base a.count few, c.read_word-word.ensures, c.byte-2.ensures, c.shift.ensures) (sym (rw (all, place) at cut)))

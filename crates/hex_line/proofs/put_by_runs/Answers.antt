@@ -2,7 +2,6 @@
 -- Assumes nothing.
 use Prim.Native.Nat.{◌%◌}
 use native.Mathlib.Omega.{arith}
-use borrow.Author.Rules.{rules}
 use Rattle.output.proofs.Writes.{writes_then}
 use Rattle.digits.specs.Run.{hex_line}
 use Rattle.digits.proofs.Run.{short_length}
@@ -12,9 +11,9 @@ pub put_run-requires : goal.put_run-requires
 put_run-requires c =
     let a = c.args in
     let wrote = c.put_short-next.ensures.next in
-    (search rules, omega arith, omega (arith, short_length a.image.bytes.now a.image.len (a.count % 4) a.from.0))
+    (omega (arith, c.plus.ensures), omega (arith, short_length a.image.bytes.now a.image.len (a.count % 4) a.from.0))
 
 pub returns : goal.returns
 unfolding hex_line
 returns c =
-    writes_then c.put_short-next.ensures c.put_run.ensures
+    writes_then c.put_short-next.ensures (rw c.plus.ensures at c.put_run.ensures)

@@ -10,4 +10,4 @@ pub returns-in-Some : goal.returns-in-Some
 returns-in-Some c =
     let a = c.args in
     let digits : (a.count + 3) / 4 ≡ c.div_ceil.result = omega (arith, c.div_ceil.ensures) in
-    rw (line_number a.image.bytes.now a.image.len a.from.0 a.count, digits, sym c.in-Some.ensures.1) c.put_value.ensures
+    rw (line_number a.image.bytes.now a.image.len a.from.0 a.count, digits, sym c.in-Some.ensures.1) c.put_digits.ensures

@@ -1,0 +1,35 @@
+// Digits in groups of one size, and blocks of them.
+
+ghost use Rattle.std.specs.Prelude.{◌≡◌, ◌+◌, ◌*◌, ◌≤◌, ◌<◌, ◌^◌, take};
+ghost use Rattle.digits.specs.Run.{run};
+
+use bitvec::{BitOffset, Image};
+use numbers::DigitWidth;
+
+// An image's digits, in groups of `size`.
+#[derive(Clone, Copy)]
+pub struct DigitGroups<'a> {
+    pub image: Image<'a>,
+    pub width: DigitWidth,
+    pub size: usize,
+    pub ghost small: { (0 < size) × (size ≤ 1024) },
+}
+
+impl<'a> DigitGroups<'a> {
+    // The digits of `count` groups, from `from` on, at the start of an array.
+    pub fn block(self, from: BitOffset, count: usize) -> [u8; 1024]
+        requires { (count * self.size ≤ 1024) × (from.0 + count * self.size * self.width.bits < 2 ^ 64) }
+        ensures { take (count * self.entry.size) result ≡ run self.entry.image.bytes.now self.entry.image.len self.entry.width.bits from.0 (count * self.entry.size) }
+    {
+        let mut digits = [0; 1024];
+        digits::put_run(
+            &mut digits,
+            0,
+            self.image,
+            self.width,
+            from,
+            count * self.size,
+        );
+        digits
+    }
+}
