@@ -21,7 +21,7 @@ use Rattle.bases.specs.Base.{base_bits}
 use Rattle.digits.proofs.Run.{bytes_run}
 use Rattle.format_list.specs.declared.FormatListOptions.{FormatListOptions}
 use Rattle.format_list.specs.List.{group_bits, group_text, between_groups}
-use Rattle.format_list.specs.Bytes.{alike}
+use Rattle.format_list.specs.Bytes.{whole_bytes, group_bytes, alike}
 use Rattle.format_list.proofs.Lengths.{group_length}
 
 -- A group of some bytes has eight bits for each.
@@ -32,6 +32,16 @@ group_bits_lem o kind wide b d = rw (b, d) (eight kind)
     eight : (kind : ByteDigits) → wide * digits_per_byte kind * digit_bits kind ≡ wide * 8
     eight Binary = omega arith
     eight Hex = omega arith
+
+-- A group of other digits is not whole bytes, and neither is one with digits left.
+pub other_digits : (w digits : ℕ) → ((kind : ByteDigits) → w ≡ digit_bits kind → ⊥) → group_bytes w digits ≡ 0
+unfolding group_bytes
+other_digits w digits n = simp (ne_eqb w 4 (n Hex), ne_eqb w 1 (n Binary))
+
+pub digits_left : (kind : ByteDigits) (w digits : ℕ) → w ≡ digit_bits kind → (digits % digits_per_byte kind ≡ 0 → ⊥) → group_bytes w digits ≡ 0
+unfolding group_bytes whole_bytes
+digits_left Binary w digits e n = rw e (simp (ne_eqb (digits % 8) 0 n))
+digits_left Hex w digits e n = rw e (simp (ne_eqb (digits % 2) 0 n))
 
 -- It is whole bytes in digits.
 group_bytes_lem : (o : FormatListOptions) (kind : ByteDigits) (wide : ℕ) → base_bits o.base ≡ digit_bits kind → o.digits_per_group ≡ wide * digits_per_byte kind

@@ -2,7 +2,7 @@
 // answers a text and its length, or refusal 1, 2 or 8.
 #![tactic(auto)]
 
-ghost use Rattle.std.specs.Prelude.{◌≡◌, true, false, cond, IfSome, MatchOption, ◌||◌, ◌++◌, ◌+◌, ◌-◌, ◌*◌, ◌≤◌, ◌<◌, ◌^◌, eqb, length};
+ghost use Rattle.std.specs.Prelude.{◌≡◌, true, false, cond, MatchOption, ◌||◌, ◌++◌, ◌+◌, ◌-◌, ◌*◌, ◌≤◌, ◌<◌, ◌^◌, eqb, length};
 ghost use Rattle.output.specs.Pieces.{pieces, leading};
 ghost use Rattle.output.specs.Writes.{Writes};
 ghost use Rattle.outcome.specs.Outcome.{too_long, Exports};
@@ -11,7 +11,7 @@ ghost use Rattle.format_list.specs.List.{list_outcome};
 ghost use Rattle.format_list.specs.Bytes.{group_bytes};
 ghost use Rattle.format_list.specs.Groups.{bad_given, between_of, groups_of, count_of, alike_of, list_of};
 
-use bitvec::{BitOffset, Image};
+use bitvec::{BitOffset, Image, WholeBytes};
 use digit_groups::{DigitGroups, Strings};
 use outcome::{Export, Refusal};
 use rows::ByteDigits;
@@ -142,7 +142,7 @@ impl<'a> ListGroups<'a> {
         }
         let groups = DigitGroups {
             image: self.good.image,
-            width: self.options.width.bits,
+            width: self.options.width,
             size: self.options.given.digits_per_group,
         };
         let strings = Strings {
@@ -167,8 +167,9 @@ impl<'a> ListGroups<'a> {
 
 impl<'a> ByteGroups<'a> {
     // The groups of a list, where they are whole bytes of hexadecimal or binary digits.
+    #[tactic(auto, using(crate::proofs::Alike::other_digits, crate::proofs::Alike::digits_left))]
     fn new(list: ListGroups<'a>) -> Option<ByteGroups<'a>>
-        ensures { IfSome result (λ g. g.list ≡ list.entry) }
+        ensures { MatchOption result (group_bytes list.entry.options.width.bits list.entry.options.given.digits_per_group ≡ 0) (λ g. g.list ≡ list.entry) }
     {
         let kind = ByteDigits::with_bits(list.options.width.bits)?;
         let digits = list.options.given.digits_per_group;
@@ -192,10 +193,15 @@ impl<'a> ByteGroups<'a> {
         let more = count - 1;
         let wide = self.bytes;
         let between = options.strings.between;
-        let next = rows::put_rows(out, at, self.kind, image, k * wide, wide, between, more);
+        let bytes = WholeBytes {
+            image,
+            first: k * wide,
+            count: more * wide,
+        };
+        let next = rows::put_rows(out, at, self.kind, bytes, wide, between, more);
         let from = BitOffset((k + more) * (wide * 8));
         let digits = options.given.digits_per_group;
-        digits::put_run(out, next, image, options.width.bits, from, digits)
+        digits::put_run(out, next, image, options.width, from, digits)
     }
 
     // Stores `count` groups of whole bytes of the image from group `k` on with the first string between
@@ -214,7 +220,12 @@ impl<'a> ByteGroups<'a> {
         }
         let image = self.list.good.image;
         let wide = self.bytes;
-        let next = rows::put_rows(out, at, self.kind, image, k * wide, wide, between, count);
+        let bytes = WholeBytes {
+            image,
+            first: k * wide,
+            count: count * wide,
+        };
+        let next = rows::put_rows(out, at, self.kind, bytes, wide, between, count);
         output::put_text(out, next - between.len(), strings.between2)
     }
 

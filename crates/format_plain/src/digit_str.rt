@@ -4,6 +4,7 @@ ghost use Rattle.outcome.specs.Outcome.{Exports};
 ghost use Rattle.format_plain.specs.Str.{str_outcome};
 
 use bitvec::{BitOffset, Image};
+use numbers::DigitWidth;
 use outcome::{Export, Refusal};
 
 // Digits of 1 to 5 bits, the last one filled with zeros.
@@ -19,7 +20,10 @@ pub fn format_str(image: Image, bits_per_digit: usize, out: &mut [u8]) -> Export
     if out.len() < count {
         return Err(Refusal::NoRoom(count));
     }
-    Ok(digits::put_run(out, 0, image, bits_per_digit, BitOffset(0), count))
+    let width = DigitWidth {
+        bits: bits_per_digit,
+    };
+    Ok(digits::put_run(out, 0, image, width, BitOffset(0), count))
 }
 
 // One digit for each bit. This and the next are exporters of document 01 by these names.

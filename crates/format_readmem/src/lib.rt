@@ -9,7 +9,7 @@ ghost use Rattle.rows.specs.declared.ByteDigits.TheVariants.{Hex};
 ghost use Rattle.format_readmem.specs.Readmem.{line_text, readmem_text, readmem_outcome, readmemb_outcome, readmemh_outcome};
 ghost use Rattle.format_readmem.specs.Runs.{line_of, lines_of, Runs};
 
-use bitvec::{BitOffset, Image};
+use bitvec::{BitOffset, Image, WholeBytes};
 use image_parts::{ImageParts, PutPart};
 use numbers::DigitWidth;
 use outcome::{Export, Refusal};
@@ -41,7 +41,7 @@ impl<'a> Lines<'a> {
     {
         let len = self.parts.good.image.len;
         let width = self.parts.width;
-        let digit = self.kind.bits();
+        let digit = self.kind.width().bits;
         let full = bitvec::parts(width, digit) + 1;
         let last = bitvec::parts(len % width, digit) + 1;
         image_parts::parts_length(len, width, full, last)
@@ -55,7 +55,7 @@ impl<'a> Lines<'a> {
     {
         let image = self.parts.good.image;
         match self.kind {
-            ByteDigits::Binary => digits::put_run(out, at, image, 1, from, count),
+            ByteDigits::Binary => digits::put_run(out, at, image, DigitWidth::BINARY, from, count),
             ByteDigits::Hex => hex_line::put_hex_line(out, at, image, from, count),
         }
     }
@@ -69,8 +69,13 @@ impl<'a> Lines<'a> {
     {
         let image = self.parts.good.image;
         let whole = image.len / self.parts.width;
-        let bytes = self.parts.width / 8;
-        let next = rows::put_rows(out, 0, self.kind, image, 0, bytes, b"\n", whole);
+        let size = self.parts.width / 8;
+        let bytes = WholeBytes {
+            image,
+            first: 0,
+            count: whole * size,
+        };
+        let next = rows::put_rows(out, 0, self.kind, bytes, size, b"\n", whole);
         image_parts::put_parts(out, next, self.parts, whole, &self)
     }
 
@@ -85,7 +90,7 @@ impl<'a> Lines<'a> {
         let whole = image.len / self.parts.width;
         let size = self.parts.width / digit.bits;
         let from = BitOffset(0);
-        let next = digit_lines::put_lines(out, 0, image, digit.bits, from, size, b'\n', whole);
+        let next = digit_lines::put_lines(out, 0, image, digit, from, size, b'\n', whole);
         image_parts::put_parts(out, next, self.parts, whole, &self)
     }
 

@@ -11,23 +11,27 @@ use Rattle.rows.proofs.Rows.{rows_length}
 use Rattle.format_readmem.proofs.Whole.{whole_rows, filled_lines}
 use Rattle.format_readmem.proofs.Lines.write_rows.Goals as goal
 
-pub put_rows-next-requires : goal.put_rows-next-requires
-put_rows-next-requires c =
+pub invariant_of-bytes : goal.invariant_of-bytes
+invariant_of-bytes c =
+    let p = c.args.self.parts in
+    let whole = p.good.image.len / p.width in
+    let reach = div-mul-le_self p.good.image.len p.width in
+    let bytes : whole * (p.width / 8) * 8 ≤ whole * p.width =
+    rw (mul_assoc whole (p.width / 8) 8) (mul-le-mul_left whole (omega arith)) in
+    record { inside = (omega (arith, bytes, reach), omega (arith, bytes, reach, p.good.inside)) }
+
+pub put_rows-next-requires-clause-room : goal.put_rows-next-requires-clause-room
+put_rows-next-requires-clause-room c =
     let p = c.args.self.parts in
     let i = p.good.image in
     let whole = i.len / p.width in
-    let reach = div-mul-le_self i.len p.width in
-    let bytes : whole * (p.width / 8) * 8 ≤ whole * p.width =
-    rw (mul_assoc whole (p.width / 8) 8) (mul-le-mul_left whole (omega arith)) in record {
-      inside = (omega (arith, bytes, reach), omega (arith, bytes, reach, p.good.inside));
-      room = omega (
-        arith,
-        rows_length c.args.self.kind i.bytes.now i.len 0 (p.width / 8) (ascii "\n") whole,
-        ap length (whole_rows c.args.self.kind i.bytes.now i.len p.width whole c.requires.bytes reach),
-        (filled_lines c.args.self.kind i.bytes.now i.len p.width p.in_range.0).2,
-        c.requires.room,
-      );
-    }
+    omega (
+      arith,
+      rows_length c.args.self.kind i.bytes.now i.len 0 (p.width / 8) (ascii "\n") whole,
+      ap length (whole_rows c.args.self.kind i.bytes.now i.len p.width whole c.requires.bytes (div-mul-le_self i.len p.width)),
+      (filled_lines c.args.self.kind i.bytes.now i.len p.width p.in_range.0).2,
+      c.requires.room,
+    )
 
 pub put_parts-requires : goal.put_parts-requires
 put_parts-requires c =

@@ -24,15 +24,20 @@ put_text-requires c = room_then c.args.self.list.options.strings.between2.now c.
 pub returns-then-strings-between : goal.returns-then-strings-between
 returns-then-strings-between c = writes_then c.put_alike-end.ensures c.put_text.ensures
 
-pub put_rows-next-requires : goal.put_rows-next-requires
-put_rows-next-requires c =
+pub invariant_of-bytes : goal.invariant_of-bytes
+invariant_of-bytes c =
+    let a = c.args in
+    let place = bytes_place a.k a.count a.self.bytes in
+    record { inside = (omega (arith, place, c.requires.inside.1), omega (arith, place, c.requires.inside.1, a.self.list.good.inside)) }
+
+pub put_rows-next-requires-clause-room : goal.put_rows-next-requires-clause-room
+put_rows-next-requires-clause-room c =
     let a = c.args in
     let b = a.self in
     let i = b.list.good.image in
     let o = b.list.options in
-    let place = bytes_place a.k a.count b.bytes in
     let rows = closed_rows o.given b.kind b.bytes b.base b.digits i.bytes.now i.len o.strings.between.now a.k a.count c.requires.inside.0 in
-    record { inside = (omega (arith, place, c.requires.inside.1), omega (arith, place, c.requires.inside.1, b.list.good.inside)); room = omega (arith, rows.1, c.requires.room, length-append (alike_of b.list a.k (a.count - 1)) o.strings.between2.now) }
+    omega (arith, rows.1, c.requires.room, length-append (alike_of b.list a.k (a.count - 1)) o.strings.between2.now)
 
 pub overflow_sub-next : goal.overflow_sub-next
 overflow_sub-next c =
