@@ -7,12 +7,12 @@ use mathlib.Core.Logic.{◌↔◌}
 use Prim.Native.Nat.{ℕ, zero, suc, ◌+◌, ◌-◌, ◌*◌, ◌/◌, ◌%◌, ◌^◌, ◌<◌, ◌≤◌}
 use native.Mathlib.Omega.{arith}
 use native.Mathlib.Numerals.{add-one}
-use native.Mathlib.Nat.{pow-suc, lt_of_lt_of_le, zero-div}
+use native.Mathlib.Nat.{pow-suc, lt_of_lt_of_le}
 use lib.Dec.{ltb}
-use lib.ListN.{length, get_or, get_or-eq_default}
+use lib.ListN.{get_or}
 use lib.Pow.{pow_mono}
 use borrow.Author.Count.{below_none, below_more}
-use borrow.Author.Tests.{le-ltb}
+use borrow.Author.Tests.{le-ltb, lt-ltb}
 use Rattle.bitvec.specs.Bits.{bit_at, bits_at}
 
 -- A bit at or past the bit length is zero.
@@ -20,14 +20,10 @@ pub bit_past : (bytes : List ℕ) (len i : ℕ) → len ≤ i → bit_at bytes l
 unfolding bit_at
 bit_past bytes len i h = simp (le-ltb i len h)
 
--- So is one past the bytes.
-pub bit_beyond : (bytes : List ℕ) (len i : ℕ) → length bytes ≤ i / 8 → bit_at bytes len i ≡ 0
+-- One within the bit length is cut out of its byte.
+pub bit_inside : (bytes : List ℕ) (len i : ℕ) → i < len → bit_at bytes len i ≡ get_or bytes (i / 8) 0 / 2 ^ (7 - i % 8) % 2
 unfolding bit_at
-bit_beyond bytes len i h = rw (get_or-eq_default bytes 0 h, zero-div) (cond_same (ltb i len))
-  where
-    cond_same : (t : Bool) → cond t (0 % 2) 0 ≡ 0
-    cond_same true = refl
-    cond_same false = refl
+bit_inside bytes len i h = simp (lt-ltb i len h)
 
 -- A bit is 0 or 1.
 pub bit_small : (bytes : List ℕ) (len i : ℕ) → bit_at bytes len i < 2
@@ -50,10 +46,14 @@ bits_small bytes len i (suc w) = rw pow-suc (omega (arith, bits_small bytes len 
 pub bits_below : (bytes : List ℕ) (len i w m : ℕ) → w ≤ m → bits_at bytes len i w < 2 ^ m
 bits_below bytes len i w m h = lt_of_lt_of_le (bits_small bytes len i w) (pow_mono h)
 
--- A digit of one bit is the bit.
-pub bits_one : (bytes : List ℕ) (len i : ℕ) → bits_at bytes len i 1 ≡ bit_at bytes len (i + 0)
+-- One of fewer than eight bits is below 128.
+pub bits_seven : (bytes : List ℕ) (len i w : ℕ) → w < 8 → bits_at bytes len i w < 128
+bits_seven bytes len i w h = bits_below bytes len i w 7 (omega arith)
+
+-- A digit of no bits.
+pub bits_none : (bytes : List ℕ) (len i : ℕ) → bits_at bytes len i 0 ≡ 0
 unfolding bits_at
-bits_one bytes len i = omega arith
+bits_none bytes len i = refl
 
 -- Two images have the same bits from i on, w of them.
 abbrev pub SameBits : List ℕ → ℕ → List ℕ → ℕ → ℕ → ℕ → Type 0

@@ -5,9 +5,9 @@ use mathlib.Core.Path.{◌≡◌, refl, ap, sym, ◌∙◌}
 use mathlib.Core.List.{List}
 use Prim.Native.Nat.{ℕ, zero, suc, ◌+◌, ◌-◌, ◌*◌, ◌/◌, ◌%◌, ◌^◌, ◌<◌, ◌≤◌}
 use native.Mathlib.Omega.{arith}
-use native.Mathlib.Nat.{pow-suc, pow-zero, mul-one, add-zero, add-suc, add_assoc, mul_assoc, div-one}
-use lib.ListN.{get_or}
-use lib.Pow.{high, low, shr-shr}
+use native.Mathlib.Nat.{one-mul, mod-eq_of_lt, pow-suc, pow-zero, mul-one, add-zero, add-suc, add_assoc, mul_assoc, div-one}
+use lib.ListN.{length, get_or}
+use lib.Pow.{high, low, shr-shr, pow_mono}
 use borrow.Author.Tests.{lt-ltb}
 use Rattle.bitvec.specs.Bits.{bit_at, bits_at}
 use Rattle.bitvec.proofs.Bits.{bits_small, bits_same}
@@ -51,6 +51,12 @@ front_whole bytes len k h l (suc j) r e =
 pub byte_whole : (bytes : List ℕ) (len k : ℕ) → k * 8 + 8 ≤ len → get_or bytes k 0 < 256 → bits_at bytes len (k * 8) 8 ≡ get_or bytes k 0
 byte_whole bytes len k h l = front_whole bytes len k h l 8 0 refl ∙ div-one (get_or bytes k 0)
 
+-- The same by its offset.
+pub byte_from : (bytes : List ℕ) (len i : ℕ) → i % 8 ≡ 0 → i + 8 ≤ len → get_or bytes (i / 8) 0 < 256 → bits_at bytes len i 8 ≡ get_or bytes (i / 8) 0
+byte_from bytes len i a h l =
+    let place : i / 8 * 8 ≡ i = omega arith in
+    rw place at (byte_whole bytes len (i / 8) (omega arith) l)
+
 -- Whole bytes of the image and one more.
 pub next_whole : (bytes : List ℕ) (len k m : ℕ) → (k + m) * 8 + 8 ≤ len → get_or bytes (k + m) 0 < 256
     → bits_at bytes len (k * 8) (m * 8 + 8) ≡ bits_at bytes len (k * 8) (m * 8) * 256 + get_or bytes (k + m) 0
@@ -73,6 +79,18 @@ bits_inside bytes len len₂ i w h l =
 pub bits_cut : (bytes : List ℕ) (len len₂ i s w r : ℕ) → i + s + w ≤ len → i + s + w ≤ len₂
     → bits_at bytes len (i + s) w ≡ bits_at bytes len₂ i (s + w + r) / 2 ^ r % 2 ^ w
 bits_cut bytes len len₂ i s w r h l = bits_inside bytes len len₂ (i + s) w h l ∙ bits_within bytes len₂ i s w r
+
+-- The base of digits of at most eight bits, as a shift computes it.
+shifted_base : (w : ℕ) → w ≤ 8 → 1 * 2 ^ w % 2 ^ 32 ≡ 2 ^ w
+shifted_base w h = rw one-mul (mod-eq_of_lt (omega (arith, pow_mono h)))
+
+-- A digit behind the first bits of a byte is cut out of it and the byte behind.
+pub bits_across : (bytes : List ℕ) (len k s w : ℕ) → k * 8 + s + w ≤ len → k + 1 < length bytes → s ≤ 8 → w ≤ 8 → get_or bytes k 0 < 256 → get_or bytes (k + 1) 0 < 256
+    → (get_or bytes k 0 * 256 + get_or bytes (k + 1) 0) / 2 ^ (16 - (s + w)) % (1 * 2 ^ w % 2 ^ 32) ≡ bits_at bytes len (k * 8 + s) w
+bits_across bytes len k s w inside there few most h l =
+    let all : s + w + (16 - (s + w)) ≡ 16 = omega arith in
+    let cut = bits_cut bytes len (8 * length bytes) (k * 8) s w (16 - (s + w)) inside (omega arith) in
+    rw (shifted_base w most) (sym (rw (all, pair_whole bytes (8 * length bytes) k (omega arith) h l) at cut))
 
 -- Twice as many bytes: those of the first half, and then those of the second, w bits each.
 pub words_join : (bytes : List ℕ) (len at half w : ℕ) → half * 8 ≡ w

@@ -83,6 +83,7 @@ impl<'a> Image<'a> {
 
     // The size check, the cause of refusal 1: whether the bit length is above the largest image or
     // above 8 times the bytes.
+    #[tactic(auto, using(crate::proofs::Size::few_bytes), unfolding(crate::specs::Size::bad_size))]
     pub fn bad_size(self) -> bool
         ensures { result ≡ bad_size self.entry.bytes.now self.entry.len }
     {
@@ -108,42 +109,43 @@ impl<'a> Image<'a> {
     }
 
     // The bit at `offset`, 0 or 1.
+    #[tactic(auto, using(crate::proofs::Bits::bit_past, crate::proofs::Bits::bit_inside))]
     pub fn read_bit(self, offset: BitOffset) -> u8
         ensures { result ≡ bit_at self.entry.bytes.now self.entry.len offset.0 }
     {
-        let index = offset.0;
-        if self.len <= index {
+        if self.len <= offset.0 {
             return 0;
         }
-        let at = index / 8;
-        if self.bytes.len() <= at {
-            return 0;
-        }
-        let shift = (7 - index % 8) as u8;
-        (self.bytes[at] >> shift) % 2
+        let byte = self.bytes.get(offset.byte()).map_or(0, |&byte| byte);
+        let shift = (7 - offset.shift()) as u8;
+        (byte >> shift) % 2
     }
 
-    // The digit that `width` bits from `offset` on make, read bit by bit.
+    // The digit that `width` bits from `offset` on make, read bit by bit. The number of a turn is
+    // itself added to the offset.
+    #[tactic(auto, using(crate::proofs::Bits::bits_none, crate::proofs::Bits::bits_next, crate::proofs::Bits::bits_seven, crate::proofs::Bits::bit_small))]
     fn read_each(self, offset: BitOffset, width: usize) -> u8
         requires { (width ≤ 8) × (offset.0 + width < 2 ^ 64) }
         ensures { result ≡ bits_at self.entry.bytes.now self.entry.len offset.0 width }
     {
-        let index = offset.0;
         let mut digit: u8 = 0;
         for k in 0..width {
-            digit = digit * 2 + self.read_bit(BitOffset(index + k));
+            digit = digit * 2 + self.read_bit(offset.plus(k));
         }
         digit
     }
 
     // The digit that `width` bits make behind the first `shift` bits of byte `at`, where they are
     // within the bit length and the byte behind is there.
+    #[tactic(auto, using(crate::proofs::Words::bits_across))]
     pub fn read_across(self, at: usize, shift: usize, width: usize) -> u8
         requires inside { (at * 8 + shift + width ≤ self.len) × (at + 1 < length self.bytes.now) }
         requires small { (shift ≤ 8) × (width ≤ 8) }
         ensures { result ≡ bits_at self.entry.bytes.now self.entry.len (at * 8 + shift) width }
     {
-        let pair = self.bytes[at] as u32 * 256 + self.bytes[at + 1] as u32;
+        let first = self.bytes[at];
+        let second = self.bytes[at + 1];
+        let pair = u16::from_be_bytes([first, second]) as u32;
         let behind = (16 - (shift + width)) as u32;
         let base: u32 = 1 << width as u32;
         ((pair >> behind) % base) as u8
@@ -154,26 +156,25 @@ impl<'a> Image<'a> {
         requires { (width ≤ 8) × (offset.0 + width < 2 ^ 64) }
         ensures { result ≡ bits_at self.entry.bytes.now self.entry.len offset.0 width }
     {
-        let index = offset.0;
-        if self.len < index + width || self.bytes.len() <= index / 8 + 1 {
-            return self.read_each(BitOffset(index), width);
+        if self.len < offset.0 + width || self.bytes.len() <= offset.byte() + 1 {
+            return self.read_each(offset, width);
         }
-        self.read_across(index / 8, index % 8, width)
+        self.read_across(offset.byte(), offset.shift(), width)
     }
 
     // The whole byte from `offset` on.
+    #[tactic(auto, using(crate::proofs::Words::byte_from))]
     pub fn read_byte(self, offset: BitOffset) -> u8
         requires { offset.0 + 8 < 2 ^ 64 }
         ensures { result ≡ bits_at self.entry.bytes.now self.entry.len offset.0 8 }
     {
-        let index = offset.0;
-        if index % 8 != 0 {
-            return self.read_bits(BitOffset(index), 8);
+        if offset.shift() != 0 {
+            return self.read_bits(offset, 8);
         }
-        if self.len < index + 8 || self.bytes.len() <= index / 8 {
-            return self.read_each(BitOffset(index), 8);
+        if self.len < offset.0 + 8 || self.bytes.len() <= offset.byte() {
+            return self.read_each(offset, 8);
         }
-        self.bytes[index / 8]
+        self.bytes[offset.byte()]
     }
 }
 
@@ -216,7 +217,9 @@ impl<'a> WholeBytes<'a> {
     }
 }
 
-// How many parts of `width` bits an image of `len` bits has, the last one perhaps shorter.
+// How many parts of `width` bits an image of `len` bits has, the last one perhaps shorter: the
+// library's quotient, whose promise here is the definition of which the laws of parts speak.
+#[tactic(auto, using(crate::proofs::Size::ceil_rounded))]
 pub fn parts(len: usize, width: usize) -> usize
     requires { (0 < width) × (len + width ≤ 2 ^ 64) }
     ensures { result ≡ ceil_div len width }
@@ -229,7 +232,6 @@ pub fn read_word(bytes: &[u8], at: usize) -> u64
     requires { at + 8 ≤ length bytes.now }
     ensures { result ≡ bits_at bytes.now (8 * length bytes.now) (at * 8) 64 }
 {
-    let mut word = [0; 8];
-    word.copy_from_slice(&bytes[at..at + 8]);
+    let word = <[u8; 8]>::try_from(&bytes[at..at + 8]).unwrap();
     u64::from_be_bytes(word)
 }

@@ -1,14 +1,12 @@
 -- What an exporter promises is what the function over it returns and stores.
 -- Assumes nothing.
-use mathlib.Core.Path.{◌≡◌, refl, ap, ◌∙◌}
-use mathlib.Core.Bool.{Bool, true, false}
+use mathlib.Core.Path.{◌≡◌, ap, ◌∙◌}
 use mathlib.Core.List.{List}
 use Prim.Native.Nat.{ℕ}
-use mir.Val.{bool_byte}
 use Rattle.std.specs.Prelude.{Result}
 use Rattle.outcome.specs.declared.Refusal.{Refusal}
 use Rattle.outcome.specs.Outcome.{Outcome, Answer, answer_of, Exports}
-use Rattle.capi.specs.Returns.{Returns, flag}
+use Rattle.capi.specs.Returns.{Returns}
 
 pub gives : {o : Outcome} {e : Result ℕ Refusal} {before after : List ℕ} {r v : ℕ}
     → Exports o e before after → (r ≡ (answer_of e).number) × (v ≡ (answer_of e).value) → Returns o r v before after
@@ -18,8 +16,3 @@ gives p q =
       stored = q.1 ∙ ap (λ (a : Answer). a.value) p.answered;
       buffer = p.buffer;
     }
-
--- A bool cast to a byte.
-pub flag_byte : (b : Bool) → bool_byte b ≡ flag b
-flag_byte true = refl
-flag_byte false = refl

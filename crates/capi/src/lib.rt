@@ -46,20 +46,9 @@ pub extern "C" fn riceshoal_format_binary(
     ensures exports { Returns (binary_outcome image.now bits (length out.old)) result value.new out.old out.new }
     ensures padding { padded.new ≡ flag (padded_in (binary_outcome image.now bits (length out.old)) bits) }
 {
-    let image = Image {
-        bytes: image,
-        len: bits,
-    };
-    match format_plain::format_binary(image, out) {
-        Ok(binary) => {
-            *padded = binary.padded as u8;
-            give(Ok(binary.length), value)
-        }
-        Err(refusal) => {
-            *padded = 0;
-            give(Err(refusal), value)
-        }
-    }
+    let made = format_plain::format_binary(Image::new(image, bits), out);
+    *padded = made.is_ok_and(|binary| binary.padded) as u8;
+    give(made.map(|binary| binary.length), value)
 }
 
 #[unsafe(no_mangle)]
@@ -72,11 +61,10 @@ pub extern "C" fn riceshoal_format_str(
 ) -> u32
     ensures { Returns (str_outcome image.now bits bits_per_digit (length out.old)) result value.new out.old out.new }
 {
-    let image = Image {
-        bytes: image,
-        len: bits,
-    };
-    give(format_plain::format_str(image, bits_per_digit, out), value)
+    give(
+        format_plain::format_str(Image::new(image, bits), bits_per_digit, out),
+        value,
+    )
 }
 
 #[unsafe(no_mangle)]
@@ -89,11 +77,10 @@ pub extern "C" fn riceshoal_format_readmemb(
 ) -> u32
     ensures { Returns (readmemb_outcome image.now bits width (length out.old)) result value.new out.old out.new }
 {
-    let image = Image {
-        bytes: image,
-        len: bits,
-    };
-    give(format_readmem::format_readmemb(image, width, out), value)
+    give(
+        format_readmem::format_readmemb(Image::new(image, bits), width, out),
+        value,
+    )
 }
 
 #[unsafe(no_mangle)]
@@ -106,11 +93,10 @@ pub extern "C" fn riceshoal_format_readmemh(
 ) -> u32
     ensures { Returns (readmemh_outcome image.now bits width (length out.old)) result value.new out.old out.new }
 {
-    let image = Image {
-        bytes: image,
-        len: bits,
-    };
-    give(format_readmem::format_readmemh(image, width, out), value)
+    give(
+        format_readmem::format_readmemh(Image::new(image, bits), width, out),
+        value,
+    )
 }
 
 #[unsafe(no_mangle)]
@@ -124,12 +110,8 @@ pub extern "C" fn riceshoal_format_separator(
 ) -> u32
     ensures { Returns (separator_outcome image.now bits radix separator.now (length out.old)) result value.new out.old out.new }
 {
-    let image = Image {
-        bytes: image,
-        len: bits,
-    };
     give(
-        format_separator::format_separator(image, radix, separator, out),
+        format_separator::format_separator(Image::new(image, bits), radix, separator, out),
         value,
     )
 }
@@ -144,11 +126,10 @@ pub extern "C" fn riceshoal_format_c_array(
 ) -> u32
     ensures { Returns (c_array_outcome image.now bits radix (length out.old)) result value.new out.old out.new }
 {
-    let image = Image {
-        bytes: image,
-        len: bits,
-    };
-    give(format_c_array::format_c_array(image, radix, out), value)
+    give(
+        format_c_array::format_c_array(Image::new(image, bits), radix, out),
+        value,
+    )
 }
 
 #[unsafe(no_mangle)]
@@ -178,12 +159,8 @@ pub extern "C" fn riceshoal_format_list(
         between,
         between2,
     };
-    let image = Image {
-        bytes: image,
-        len: bits,
-    };
     give(
-        format_list::format_list(image, options, strings, out),
+        format_list::format_list(Image::new(image, bits), options, strings, out),
         value,
     )
 }
@@ -197,11 +174,7 @@ pub extern "C" fn riceshoal_format_mif(
 ) -> u32
     ensures { Returns (mif_outcome image.now bits (length out.old)) result value.new out.old out.new }
 {
-    let image = Image {
-        bytes: image,
-        len: bits,
-    };
-    give(format_mif::format_mif(image, out), value)
+    give(format_mif::format_mif(Image::new(image, bits), out), value)
 }
 
 #[unsafe(no_mangle)]
@@ -214,12 +187,8 @@ pub extern "C" fn riceshoal_format_logisim(
 ) -> u32
     ensures { Returns (logisim_outcome image.now bits bits_per_chunk (length out.old)) result value.new out.old out.new }
 {
-    let image = Image {
-        bytes: image,
-        len: bits,
-    };
     give(
-        format_logisim::format_logisim(image, bits_per_chunk, out),
+        format_logisim::format_logisim(Image::new(image, bits), bits_per_chunk, out),
         value,
     )
 }
@@ -241,11 +210,10 @@ pub extern "C" fn riceshoal_format_dump(
         byte_bits,
         bytes_per_line,
     };
-    let image = Image {
-        bytes: image,
-        len: bits,
-    };
-    give(format_dump::format_dump(image, options, out), value)
+    give(
+        format_dump::format_dump(Image::new(image, bits), options, out),
+        value,
+    )
 }
 
 #[unsafe(no_mangle)]
@@ -260,16 +228,13 @@ pub extern "C" fn riceshoal_format_intelhex(
 ) -> u32
     ensures { Returns (hex_outcome image.now bits offsets.now sizes.now address_unit (length out.old)) result value.new out.old out.new }
 {
-    let image = Image {
-        bytes: image,
-        len: bits,
-    };
     give(
-        intelhex::format_intelhex(image, offsets, sizes, address_unit, out),
+        intelhex::format_intelhex(Image::new(image, bits), offsets, sizes, address_unit, out),
         value,
     )
 }
 
+// The C interface lends each column of the spans and each option as a parameter.
 #[unsafe(no_mangle)]
 pub extern "C" fn riceshoal_format_annotated(
     image: &[u8],
@@ -289,7 +254,10 @@ pub extern "C" fn riceshoal_format_annotated(
     out: &mut [u8],
     value: &mut u64,
 ) -> u32
-    ensures { Returns (annotated_outcome image.now bits (record { base = base; addr_base = addr_base; digits_per_group = digits_per_group; display_labels = display_labels }) (spans_of offsets.now sizes.now addrs.now files.now starts.now ends.now) firmware.now protocol.now (length out.old)) result value.new out.old out.new }
+    ensures { Returns
+        (annotated_outcome image.now bits (record { base = base; addr_base = addr_base; digits_per_group = digits_per_group; display_labels = display_labels })
+        (spans_of offsets.now sizes.now addrs.now files.now starts.now ends.now) firmware.now protocol.now (length out.old))
+        result value.new out.old out.new }
 {
     let options = FormatAnnotatedOptions {
         base,
@@ -306,12 +274,8 @@ pub extern "C" fn riceshoal_format_annotated(
         ends,
     };
     let sources = Sources { firmware, protocol };
-    let image = Image {
-        bytes: image,
-        len: bits,
-    };
     give(
-        annotated::format_annotated(image, spans, sources, options, out),
+        annotated::format_annotated(Image::new(image, bits), spans, sources, options, out),
         value,
     )
 }

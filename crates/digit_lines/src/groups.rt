@@ -16,7 +16,9 @@ pub struct DigitGroups<'a> {
 }
 
 impl<'a> DigitGroups<'a> {
-    // The digits of `count` groups, from `from` on, at the start of an array.
+    // The digits of `count` groups, from `from` on, at the start of an array, which is made where it
+    // is used.
+    #[inline(always)]
     pub fn block(self, from: BitOffset, count: usize) -> [u8; 1024]
         requires { (count * self.size ≤ 1024) × (from.0 + count * self.size * self.width.bits < 2 ^ 64) }
         ensures { take (count * self.entry.size) result ≡ run self.entry.image.bytes.now self.entry.image.len self.entry.width.bits from.0 (count * self.entry.size) }

@@ -1,19 +1,11 @@
-// Eight characters stored at once: the compiler joins the eight stores wherever they stand, if all
-// characters are known before the first is stored and a word has the first one in its lowest byte.
+// Characters stored at once, eight or four as the bytes of a word: the compiler makes one store of
+// them, since all are known before the first is stored and the first is in the word's lowest byte.
 #![tactic(auto)]
 
 ghost use Rattle.std.specs.Prelude.{◌≡◌, [], ◌∷◌, ◌+◌, ◌≤◌, length};
 ghost use Rattle.output.specs.Writes.{Writes};
 ghost use Rattle.numbers.specs.Digits.{digits_of};
-ghost use Rattle.eight_chars.specs.Word.{low_bytes};
-
-// Stores eight characters.
-pub fn put_eight(out: &mut [u8], at: usize, chars: [u8; 8]) -> usize
-    requires { at + 8 ≤ length out.old }
-    ensures { Writes chars out.old at out.new result }
-{
-    output::put_all(out, at, &chars)
-}
+ghost use Rattle.eight_chars.specs.Word.{low_bytes, lowest_bytes};
 
 // The bits of a byte as binary digits, one in each byte of a word, the first digit lowest: seven by a
 // product that moves each bit to the end of a byte, and the last one by a shift.
@@ -26,13 +18,14 @@ fn digit_word(byte: u8) -> u64
     ones | 0x3030_3030_3030_3030
 }
 
-// Stores the eight bytes of a word, the lowest first.
-#[tactic(auto, using(crate::proofs::Word::le_bytes))]
-pub fn put_word(out: &mut [u8], at: usize, word: u64) -> usize
-    requires { at + 8 ≤ length out.old }
-    ensures { Writes (low_bytes word) out.old at out.new result }
+// Stores the `N` lowest bytes of a word, the lowest first.
+#[tactic(auto, using(crate::proofs::Word::le_lowest, crate::proofs::Word::lowest_length))]
+pub fn put_low<const N: usize>(out: &mut [u8], at: usize, word: u64) -> usize
+    requires { (N ≤ 8) × (at + N ≤ length out.old) }
+    ensures { Writes (lowest_bytes N word) out.old at out.new result }
 {
-    put_eight(out, at, word.to_le_bytes())
+    let bytes = word.to_le_bytes();
+    output::put_all(out, at, &bytes[..N])
 }
 
 // Stores a byte as eight binary digits.
@@ -40,5 +33,5 @@ pub fn put_bits(out: &mut [u8], at: usize, byte: u8) -> usize
     requires { at + 8 ≤ length out.old }
     ensures { Writes (digits_of 1 8 byte) out.old at out.new result }
 {
-    put_word(out, at, digit_word(byte))
+    put_low::<8>(out, at, digit_word(byte))
 }

@@ -7,10 +7,11 @@ use native.Mathlib.Omega.{arith}
 use lib.Bits.{bit_and, and_le_r, and_zero_r, and_block}
 use lib.Dec.{T}
 use lib.ListN.{get_or}
-use Rattle.std.specs.Int.{w32, to_le_bytes}
 use Rattle.output.proofs.Exhaust.{all, same, exhaust}
 use Rattle.numbers.specs.declared.Letters.TheVariants.{Lower}
 use Rattle.numbers.specs.Digits.{digit_char, byte_text}
+use Rattle.output.specs.Pieces.{pieces}
+use Rattle.eight_chars.specs.Word.{lowest_bytes}
 use Rattle.hex_pair.specs.Pair.{four_bytes}
 
 -- A byte's halves, one in each byte of a number.
@@ -79,27 +80,35 @@ unfolding lane
 word f g = omega arith
 
 pub digits : (f g : ℕ) → f < 256 → g < 256 → four_bytes (lane f + lane g * 65536) ≡ byte_text Lower f ++ byte_text Lower g
-unfolding four_bytes
+unfolding lowest_bytes pieces
 digits f g h l =
     let w = lane f + lane g * 65536 in
     let fourth : w / 16777216 % 256 ≡ lane g / 256 = omega (arith, lane_small f, lane_small g) in
     let third : w / 65536 % 256 ≡ lane g % 256 = omega (arith, lane_small f, lane_small g) in
     let second : w / 256 % 256 ≡ lane f / 256 = omega (arith, lane_small f, lane_small g) in
-    let first : w % 256 ≡ lane f % 256 = omega (arith, lane_small f, lane_small g) in
+    let first : w / 1 % 256 ≡ lane f % 256 = omega (arith, lane_small f, lane_small g) in
     rw (first, second, third, fourth) (ap₂ (λ (s t : List ℕ). s ++ t) (lane_digits f h) (lane_digits g l))
 
--- The library's bytes of a word, the lowest first.
-pub le_bytes : (v : ℕ) → to_le_bytes w32 (v % 4294967296) ≡ four_bytes v
-unfolding four_bytes
-le_bytes v =
-    let second : v % 4294967296 / 256 % 256 ≡ v / 256 % 256 = omega arith in
-    let third : v % 4294967296 / 65536 % 256 ≡ v / 65536 % 256 = omega arith in
-    let fourth : v % 4294967296 / 16777216 % 256 ≡ v / 16777216 % 256 = omega arith in
-    let first : v % 4294967296 % 256 ≡ v % 256 = omega arith in
-    rw (first, second, third, fourth)
+-- A mask bounds what is masked.
+pub mask_small : (x m : ℕ) → bit_and x m ≤ m
+mask_small = and_le_r
+
+-- What the code computes of two bytes at once are their digits.
+pub pair_digits : (f g : ℕ) → f < 256 → g < 256
+    → (let halves = bit_and ((f + g * 65536) / 16) 983055 + bit_and (f + g * 65536) 983055 * 256 in
+    four_bytes (halves + 808464432 + bit_and ((halves + 101058054) / 16) 16843009 * 39) ≡ byte_text Lower f ++ byte_text Lower g)
+pair_digits f g h l = rw (halves f g h l, letters f g) (ap four_bytes (word f g) ∙ digits f g h l)
 
 -- The four digits of two bytes, parted by a character behind each byte.
-pub parted : (r : List ℕ) (x f g : ℕ) → r ≡ byte_text Lower f ++ byte_text Lower g
+parted_text : (r : List ℕ) (x f g : ℕ) → r ≡ byte_text Lower f ++ byte_text Lower g
     → get_or r 0 0 ∷ get_or r 1 0 ∷ x ∷ get_or r 2 0 ∷ get_or r 3 0 ∷ x ∷ [] ≡ (byte_text Lower f ++ (x ∷ [])) ++ (byte_text Lower g ++ (x ∷ []))
 unfolding byte_text
-parted r x f g e = rw e
+parted_text r x f g e = rw e
+
+-- The same of the word's bytes, as the library has them.
+pub parted : (v x f g : ℕ) → four_bytes v ≡ byte_text Lower f ++ byte_text Lower g
+    → v % 256 ∷ v / 256 % 256 ∷ x ∷ v / 65536 % 256 ∷ v / 16777216 % 256 ∷ x ∷ [] ≡ (byte_text Lower f ++ (x ∷ [])) ++ (byte_text Lower g ++ (x ∷ []))
+unfolding lowest_bytes pieces
+parted v x f g e =
+    let lowest : v / 1 % 256 ≡ v % 256 = omega arith in
+    rw (← lowest) (parted_text (four_bytes v) x f g e)

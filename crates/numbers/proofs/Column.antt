@@ -30,9 +30,3 @@ writes_earlier {a} {b} {l₀} {at = at} p q e =
       next = simp length-append (omega (arith, p.next, e));
       stored = q.stored ∙ ap (λ (m : List ℕ). sets m at a) p.stored ∙ rw e (sets_earlier a b l₀ at);
     }
-
--- A text begins at the place that is as far before its end as it is long.
-pub writes_at : {t l₀ l₁ : List ℕ} {place end : ℕ} (at : ℕ) → Writes t l₀ place l₁ end → end ≡ at + length t → Writes t l₀ at l₁ end
-writes_at {place = place} at w e =
-    let same : place ≡ at = omega (arith, w.next, e) in
-    rw same at w

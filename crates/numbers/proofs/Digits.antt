@@ -1,11 +1,11 @@
 -- Laws of the digits of a number, each for every radix from 2 on.
 -- Assumes nothing.
-use mathlib.Core.Path.{◌≡◌, refl, ap, ◌∙◌}
+use mathlib.Core.Path.{◌≡◌, refl, sym, ap, ◌∙◌}
 use mathlib.Core.Bool.{Bool, true, false, cond}
 use mathlib.Core.List.{List, [], ◌∷◌, ◌++◌, map, map-append}
-use Prim.Native.Nat.{ℕ, zero, suc, ◌+◌, ◌/◌, ◌%◌, ◌^◌, ◌≤◌, ◌<◌, ◌-◌, max}
+use Prim.Native.Nat.{ℕ, zero, suc, ◌+◌, ◌*◌, ◌/◌, ◌%◌, ◌^◌, ◌≤◌, ◌<◌, ◌-◌, max}
 use native.Mathlib.Omega.{arith}
-use native.Mathlib.Nat.{mul-one, pow-suc, div-lt_self, div-lt_iff_lt-mul, div-eq_of_lt, mod-eq_of_lt, lt_of_lt_of_le, mul-le-mul_left, le-div_iff_mul-le, div-mul-le_self}
+use native.Mathlib.Nat.{mul-one, pow-suc, pow-zero, div-lt_self, div-lt_iff_lt-mul, lt_of_lt_of_le, mul-le-mul_left, mul-le-mul_right, mul_comm, le-div_iff_mul-le, div-mul-le_self}
 use lib.Dec.{ltb}
 use lib.ListN.{length, replicate, length-append, length-map, length-replicate}
 use borrow.Author.Tests.{lt-ltb, le-ltb, ltb-false}
@@ -13,7 +13,7 @@ use Rattle.output.proofs.Order.{by_order}
 use Rattle.output.proofs.Pieces.{pieces_length}
 use Rattle.numbers.specs.declared.Letters.{Letters}
 use Rattle.numbers.specs.declared.Letters.TheVariants.{Lower, Upper}
-use Rattle.numbers.specs.Digits.{letter_ten, digit_char, byte_text, digits_of, digits_in, digits, digit_count, number_text, padded}
+use Rattle.numbers.specs.Digits.{letter_ten, digit_char, digits_of, digits_in, digits, digit_count, number_text, padded}
 
 pub letter_small : (letters : Letters) → letter_ten letters ≤ 97
 letter_small Lower = omega arith
@@ -89,14 +89,6 @@ unfolding number_text
 number_more letters radix n h l =
     ap (map (digit_char letters)) (digits_more radix n h l) ∙ map-append (digit_char letters) (digits radix (n / radix)) (n % radix ∷ [])
 
--- A byte as two digits is the number in radix 16, filled with zeros to width 2: the Rust's `{:02x}` and `{:02X}`.
-pub byte_padded : (letters : Letters) (b : ℕ) → b < 256 → byte_text letters b ≡ padded 48 2 (number_text letters 16 b)
-unfolding byte_text padded digit_char
-byte_padded letters b h =
-    by_order b 16
-    (λ p. rw (number_last letters 16 b p, div-eq_of_lt p, mod-eq_of_lt p))
-    (λ p. rw (number_more letters 16 b (omega arith) p, number_last letters 16 (b / 16) (omega arith)))
-
 -- The text of a number has a character for each digit.
 pub number_length : (letters : Letters) (radix n : ℕ) → length (number_text letters radix n) ≡ digit_count radix n
 unfolding number_text digit_count
@@ -122,3 +114,45 @@ pub padded_length : (fill width : ℕ) (t : List ℕ) → length (padded fill wi
 unfolding padded
 padded_length fill width t =
     length-append (replicate (width - length t) fill) t ∙ rw (length-replicate (width - length t) fill) (omega arith)
+
+-- A text is not filled to a width that it has, and fills a larger one as it does the larger of both.
+pub padded_none : (letters : Letters) (radix n fill : ℕ) → padded fill (digit_count radix n) (number_text letters radix n) ≡ number_text letters radix n
+unfolding padded
+padded_none letters radix n fill =
+    let none : digit_count radix n - length (number_text letters radix n) ≡ 0 = omega (arith, number_length letters radix n) in
+    rw none
+
+pub padded_wider : (letters : Letters) (radix n fill width : ℕ)
+    → padded fill (max width (digit_count radix n)) (number_text letters radix n) ≡ padded fill width (number_text letters radix n)
+unfolding padded
+padded_wider letters radix n fill width =
+    let same : max width (digit_count radix n) - length (number_text letters radix n) ≡ width - length (number_text letters radix n) = omega (arith, number_length letters radix n) in
+    rw same
+
+-- A power of the radix is not zero.
+power_some : (radix : ℕ) → 2 ≤ radix → (k : ℕ) → 1 ≤ radix ^ k
+power_some radix h zero = omega (arith, pow-zero radix)
+power_some radix h (suc k) = rw pow-suc (omega (arith, mul-le-mul_right radix (power_some radix h k)))
+
+-- A number between two powers of the radix has one digit more than the power.
+count_between : (radix : ℕ) → 2 ≤ radix → (k n : ℕ) → radix ^ k ≤ n → n < radix ^ k * radix → digit_count radix n ≡ k + 1
+count_between radix h zero n p q = count_last radix n (omega (arith, rw pow-zero at q))
+count_between radix h (suc k) n p q =
+    let least = rw pow-suc at p in
+    let most = rw pow-suc at q in
+    let low : radix ^ k ≤ n / radix = (le-div_iff_mul-le {k = radix} (omega arith)).1 least in
+    let high : n / radix < radix ^ k * radix = (div-lt_iff_lt-mul {k = radix} (omega arith)).1 most in
+    let many : radix ≤ n = omega (arith, least, mul-le-mul_right radix (power_some radix h k)) in
+    omega (arith, count_more radix n h many, count_between radix h k (n / radix) low high)
+
+-- The same of the library's logarithm, where zero counts as one.
+pub count_power : (radix n k : ℕ) → 2 ≤ radix → radix ^ k ≤ max n 1 → max n 1 < radix * radix ^ k → k + 1 ≡ digit_count radix n
+count_power radix n k h p q =
+    let counted : digit_count radix (max n 1) ≡ k + 1 = count_between radix h k (max n 1) p (rw mul_comm at q) in
+    by_order n 1
+    (λ l.
+    let none : n ≡ 0 = omega arith in
+    omega (arith, count_last radix n (omega arith), count_last radix (max n 1) (omega arith), counted))
+    (λ l.
+    let same : max n 1 ≡ n = omega arith in
+    sym (rw same at counted))

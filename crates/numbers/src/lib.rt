@@ -59,6 +59,7 @@ fn letter_ten(letters: Letters) -> u8
 }
 
 // The character of a digit below 36.
+#[tactic(auto, using(crate::proofs::Digits::letter_small), unfolding(crate::specs::Digits::digit_char))]
 pub fn digit_char(letters: Letters, digit: u8) -> u8
     requires { digit < 36 }
     ensures { result ≡ digit_char letters digit }
@@ -70,6 +71,7 @@ pub fn digit_char(letters: Letters, digit: u8) -> u8
 }
 
 // Stores a byte as two hexadecimal digits.
+#[tactic(auto, using(output::proofs::Writes::writes_then), unfolding(crate::specs::Digits::byte_text))]
 pub fn put_byte(out: &mut [u8], at: usize, letters: Letters, byte: u8) -> usize
     requires { at + 2 ≤ length out.old }
     ensures { Writes (byte_text letters byte) out.old at out.new result }
@@ -79,6 +81,7 @@ pub fn put_byte(out: &mut [u8], at: usize, letters: Letters, byte: u8) -> usize
 }
 
 // How many decimal digits a byte has.
+#[tactic(auto, using(crate::proofs::Digits::count_last, crate::proofs::Decimal::count_two, crate::proofs::Decimal::count_three))]
 pub fn decimal_count(byte: u8) -> usize
     ensures { result ≡ digit_count 10 byte }
 {
@@ -107,17 +110,12 @@ pub fn put_decimal(out: &mut [u8], at: usize, byte: u8) -> usize
 }
 
 // How many digits `value` has in a radix.
+#[tactic(auto, using(crate::proofs::Digits::count_power))]
 pub fn digit_count(value: u64, radix: u64) -> usize
     requires { 2 ≤ radix }
     ensures { result ≡ digit_count radix value }
 {
-    let mut count: usize = 1;
-    let mut rest = value;
-    while radix <= rest {
-        rest = rest / radix;
-        count += 1;
-    }
-    count
+    value.max(1).ilog(radix) as usize + 1
 }
 
 // Stores a number so that it ends before `end`, and answers where it begins. The last digit is found
@@ -140,36 +138,6 @@ fn put_before(out: &mut [u8], end: usize, letters: Letters, value: u64, radix: R
     place
 }
 
-// Stores a number, with no padding.
-pub fn put_number(out: &mut [u8], at: usize, letters: Letters, value: u64, radix: Radix) -> usize
-    requires { at + digit_count radix.value value ≤ length out.old }
-    ensures { Writes (number_text letters radix.value value) out.old at out.new result }
-{
-    let end = at + digit_count(value, radix.value);
-    put_before(out, end, letters, value, radix);
-    end
-}
-
-// Stores a number, filled on its left to a width.
-pub fn put_padded(
-    out: &mut [u8],
-    at: usize,
-    letters: Letters,
-    value: u64,
-    radix: Radix,
-    fill: u8,
-    width: usize,
-) -> usize
-    requires { at + max width (digit_count radix.value value) ≤ length out.old }
-    ensures { Writes (padded fill width (number_text letters radix.value value)) out.old at out.new result }
-{
-    let count = digit_count(value, radix.value);
-    let next = put_fill(out, at, fill, width.saturating_sub(count));
-    let end = next + count;
-    put_before(out, end, letters, value, radix);
-    end
-}
-
 // Stores a number whose digits fit in a width, filled on its left to it. The digits are stored from
 // the back, so that they need not be counted.
 pub fn put_column(
@@ -188,6 +156,34 @@ pub fn put_column(
     let first = put_before(out, end, letters, value, radix);
     put_fill(out, at, fill, first - at);
     end
+}
+
+// Stores a number, filled on its left to a width.
+#[tactic(auto, using(crate::proofs::Digits::padded_wider))]
+pub fn put_padded(
+    out: &mut [u8],
+    at: usize,
+    letters: Letters,
+    value: u64,
+    radix: Radix,
+    fill: u8,
+    width: usize,
+) -> usize
+    requires { at + max width (digit_count radix.value value) ≤ length out.old }
+    ensures { Writes (padded fill width (number_text letters radix.value value)) out.old at out.new result }
+{
+    let width = width.max(digit_count(value, radix.value));
+    put_column(out, at, letters, value, radix, fill, width)
+}
+
+// Stores a number, with no padding.
+#[tactic(auto, using(crate::proofs::Digits::padded_none))]
+pub fn put_number(out: &mut [u8], at: usize, letters: Letters, value: u64, radix: Radix) -> usize
+    requires { at + digit_count radix.value value ≤ length out.old }
+    ensures { Writes (number_text letters radix.value value) out.old at out.new result }
+{
+    let width = digit_count(value, radix.value);
+    put_column(out, at, letters, value, radix, b' ', width)
 }
 
 // Stores a text, filled with spaces on its left to a width.

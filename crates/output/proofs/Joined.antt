@@ -3,7 +3,7 @@
 use mathlib.Core.Path.{◌≡◌, refl, sym, ap, ◌∙◌}
 use mathlib.Core.Bool.{Bool, true, false, cond}
 use mathlib.Core.List.{List, [], ◌++◌, append_assoc}
-use Prim.Native.Nat.{ℕ, zero, suc, ◌+◌, ◌-◌, ◌*◌, ◌/◌, ◌%◌, ◌≤◌, ◌<◌}
+use Prim.Native.Nat.{ℕ, zero, suc, ◌+◌, ◌-◌, ◌*◌, ◌/◌, ◌%◌, ◌≤◌, ◌<◌, ◌^◌}
 use native.Mathlib.Numerals.{add-one}
 use native.Mathlib.Nat.{div-add-mod', mod-lt, div-eq_of_lt-le, suc-mul, zero-div, div-le_self, mul-le-mul, add-zero, add-sub_cancel}
 use native.Mathlib.Omega.{arith}
@@ -111,6 +111,10 @@ between_small d a b n m c l p q =
       mul-le-mul {n₁ = (n - 1) / d} {m₁ = a} {n₂ = m} {m₂ = c} (omega arith) p,
       mul-le-mul {n₁ = (n - 1) - (n - 1) / d} {m₁ = b} {n₂ = m} {m₂ = c} (omega arith) q,
     )
+
+-- So short that they fit a word.
+pub between_few : (d a b n : ℕ) → n < 2 ^ 32 → a < 2 ^ 31 → b < 2 ^ 31 → (n - 1) / d * a + ((n - 1) - (n - 1) / d) * b < 2 ^ 64
+between_few d a b n l p q = omega (arith, between_small d a b n (2 ^ 32 - 1) (2 ^ 31 - 1) (omega arith) (omega arith) (omega arith))
 
 -- Items with one text s between them, behind what stands before the first of them.
 pub joined_alike : (between item : ℕ → List ℕ) (s : List ℕ) (k n : ℕ) → ((j : ℕ) → k < j → j ≤ k + n → leading between j ≡ s)

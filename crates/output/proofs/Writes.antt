@@ -6,7 +6,7 @@ use Prim.Native.Nat.{ℕ, suc, ◌+◌, ◌-◌, ◌<◌, ◌≤◌}
 use native.Mathlib.Nat.{add-zero, add-suc, suc-add}
 use native.Mathlib.Numerals.{add-one}
 use native.Mathlib.Omega.{arith}
-use lib.ListN.{length, set, take, drop, length-append}
+use lib.ListN.{length, set, take, drop, replicate, length-append, length-replicate}
 use lib.Seq.{sets, sets-eq, length-sets, set_comm, set-set, drop-drop}
 use borrow.Rule.Slice.PartMut.{put_mid}
 use Rattle.output.specs.Writes.{Writes}
@@ -69,3 +69,7 @@ writes_over {l₀} {at = at} {r = r} t a b h p q =
 -- A part of the buffer that is filled at once.
 pub part_filled : (t l : List ℕ) (at k : ℕ) (ys : List ℕ) → ys ≡ t → k ≡ length t → at + length t ≤ length l → put_mid at k l ys ≡ sets l at t
 part_filled t l at k ys e h room = rw (e, h, drop-drop (length t) at l, ← append_assoc (take at l) t (drop (at + length t) l)) (sym (sets-eq t l at room))
+
+-- A part that is filled with one byte.
+pub part_same : (l : List ℕ) (at n x : ℕ) → at + n ≤ length l → put_mid at n l (replicate n x) ≡ sets l at (replicate n x)
+part_same l at n x room = part_filled (replicate n x) l at n (replicate n x) refl (sym (length-replicate n x)) (omega (arith, length-replicate n x))

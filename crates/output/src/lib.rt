@@ -18,6 +18,7 @@ pub fn put(out: &mut [u8], at: usize, byte: u8) -> usize
 }
 
 // Stores all of `s`.
+#[tactic(auto, using(crate::proofs::Writes::part_filled))]
 pub fn put_all(out: &mut [u8], at: usize, s: &[u8]) -> usize
     requires { at + length s.now ≤ length out.old }
     ensures { Writes s.now out.old at out.new result }
@@ -27,7 +28,8 @@ pub fn put_all(out: &mut [u8], at: usize, s: &[u8]) -> usize
     end
 }
 
-// Stores all of `s` too: a text of one or two bytes by single stores, so that no copy is called.
+// Stores all of `s` too: a text of one or two bytes by single stores, so that no copy is called. It
+// stands beside `put_all`, which is a copy alone, for texts whose length is seldom more.
 pub fn put_text(out: &mut [u8], at: usize, s: &[u8]) -> usize
     requires { at + length s.now ≤ length out.old }
     ensures { Writes s.now out.old at out.new result }
@@ -43,6 +45,7 @@ pub fn put_text(out: &mut [u8], at: usize, s: &[u8]) -> usize
 }
 
 // Stores `count` times one byte.
+#[tactic(auto, using(crate::proofs::Writes::part_same))]
 pub fn put_fill(out: &mut [u8], at: usize, byte: u8, count: usize) -> usize
     requires { at + count ≤ length out.old }
     ensures { Writes (replicate count byte) out.old at out.new result }
@@ -52,7 +55,9 @@ pub fn put_fill(out: &mut [u8], at: usize, byte: u8, count: usize) -> usize
     end
 }
 
-// Stores `byte` where `n` divides `k`, and nothing where not.
+// Stores `byte` where `n` divides `k`, and nothing where not. Here and below `n` is no `NonZero`: it
+// is a plain number at its callers, 1, 4 and 16 at most of them, and each would have to be made one.
+#[tactic(auto, using(crate::proofs::Writes::writes_nothing), unfolding(crate::specs::Pieces::every))]
 pub fn put_every(out: &mut [u8], at: usize, n: usize, k: usize, byte: u8) -> usize
     requires { (0 < n) × (at + length (every n k (byte ∷ [])) ≤ length out.old) }
     ensures { Writes (every n k (byte ∷ [])) out.old at out.new result }
@@ -64,6 +69,7 @@ pub fn put_every(out: &mut [u8], at: usize, n: usize, k: usize, byte: u8) -> usi
 }
 
 // Stores `byte` between items, before item `k`: where `n` divides `k`, and not before the first.
+#[tactic(auto, using(crate::proofs::Writes::writes_nothing), unfolding(crate::specs::Pieces::leading))]
 pub fn put_between(out: &mut [u8], at: usize, n: usize, k: usize, byte: u8) -> usize
     requires { (0 < n) × (at + length (leading (λ j. every n j (byte ∷ [])) k) ≤ length out.old) }
     ensures { Writes (leading (λ j. every n j (byte ∷ [])) k) out.old at out.new result }
@@ -76,6 +82,7 @@ pub fn put_between(out: &mut [u8], at: usize, n: usize, k: usize, byte: u8) -> u
 
 // How long the texts between `count` items are together: the text before item k has the length
 // `whole` where `n` divides k, and `other` where not.
+#[tactic(auto, using(crate::proofs::Joined::between_few))]
 pub fn between_length(count: usize, n: usize, whole: usize, other: usize) -> usize
     requires { (0 < n) × (count < 2 ^ 32) × (whole < 2 ^ 31) × (other < 2 ^ 31) }
     ensures { result ≡ (count - 1) / n * whole + ((count - 1) - (count - 1) / n) * other }

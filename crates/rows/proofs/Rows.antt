@@ -98,29 +98,37 @@ four_text kind s e h l m n =
     rw (e, byte_whole s 32 0 (omega arith) h, byte_whole s 32 1 (omega arith) l, byte_whole s 32 2 (omega arith) m, byte_whole s 32 3 (omega arith) n)
     (append_assoc (byte_digits kind (get_or s 0 0) ++ byte_digits kind (get_or s 1 0)) (byte_digits kind (get_or s 2 0)) (byte_digits kind (get_or s 3 0)))
 
--- A part of n rows of m bytes that is taken row by row: a row that is row k, and t stands behind it.
+-- Row k of a part of n rows of m bytes.
+pub row_place : (bytes : List ℕ) (i m n k : ℕ) {all : ℕ} → all ≡ n * m → k < n → take m (drop (k * m) (take all (drop i bytes))) ≡ take m (drop (i + k * m) bytes)
+row_place bytes i m n k {all} e h =
+    let room = stride k n m h in
+    let whole : k * m + (all - k * m) ≡ all = omega (arith, room, e) in
+    ap (take m) (rw whole at (drop-take (k * m) (all - k * m) (drop i bytes)))
+    ∙ take-take m (all - k * m) (drop (k * m) (drop i bytes)) (omega (arith, room, e))
+    ∙ ap (take m) (drop-drop (k * m) i bytes)
+
+-- A part that is taken row by row: a row that is row k, and t stands behind it.
 pub row_taken : (bytes : List ℕ) (i m n k : ℕ) (row t : List ℕ) {all : ℕ} {rest : List ℕ} → 0 < m → all ≡ n * m → i + all ≤ length bytes
     → rest ≡ drop (k * m) (take all (drop i bytes)) → rest ≡ row ++ t → length row ≡ m
     → (k < n) × (row ≡ take m (drop (i + k * m) bytes)) × (t ≡ drop ((k + 1) * m) (take all (drop i bytes)))
 row_taken bytes i m n k row t {all} p e h r split l =
     let long : length (take all (drop i bytes)) ≡ n * m = omega (arith, e, h, length-take all (drop i bytes), length-drop i bytes) in
     let taken = part_taken (take all (drop i bytes)) row t m n k p long r split l in
-    let room = stride k n m taken.0 in
-    let whole : k * m + (all - k * m) ≡ all = omega (arith, room, e) in
-    let place : 0 + k ≡ k = omega arith in (
-      taken.0,
-      rw place at taken.1
-          ∙ ap (take m) (rw whole at (drop-take (k * m) (all - k * m) (drop i bytes)))
-          ∙ take-take m (all - k * m) (drop (k * m) (drop i bytes)) (omega (arith, room, e))
-          ∙ ap (take m) (drop-drop (k * m) i bytes),
-      taken.2,
-    )
+    let place : 0 + k ≡ k = omega arith in
+    (taken.0, rw place at taken.1 ∙ row_place bytes i m n k e taken.0, taken.2)
 
 -- Its digits.
 pub row_text : (kind : ByteDigits) (bytes : List ℕ) (len i m n k : ℕ) (row : List ℕ) {all : ℕ} → all ≡ n * m → (i + all) * 8 ≤ len → i + all ≤ length bytes → k < n
     → row ≡ take m (drop (i + k * m) bytes) → slice_text kind row ≡ bytes_text kind bytes len (i + k * m) m
 row_text kind bytes len i m n k row e h l p is =
     rw is (part_text kind bytes len (i + k * m) m (omega (arith, stride k n m p, e, h)) (omega (arith, stride k n m p, e, l)))
+
+-- The digits of row k, as it is cut out of the part.
+pub wide_text : (kind : ByteDigits) (bytes : List ℕ) (len i m n k : ℕ) {all : ℕ} {part : List ℕ} → part ≡ take all (drop i bytes) → all ≡ n * m → (i + all) * 8 ≤ len
+    → i + all ≤ length bytes → k < n → slice_text kind (take (k * m + m - k * m) (drop (k * m) part)) ≡ bytes_text kind bytes len (i + k * m) m
+wide_text kind bytes len i m n k is e h l p =
+    let size : k * m + m - k * m ≡ m = omega arith in
+    rw (size, is) (row_text kind bytes len i m n k _ e h l p (row_place bytes i m n k e p))
 
 -- Behind the last row no whole one is left.
 pub all_rows : (bytes : List ℕ) (i m n k : ℕ) {all : ℕ} {rest : List ℕ} → all ≡ n * m → i + all ≤ length bytes
@@ -144,11 +152,6 @@ unfolding rows_text
 rows_length kind bytes len i m tail n =
     pieces_length _ (m * digits_per_byte kind + length tail) n
     (λ k h. length-append (bytes_text kind bytes len (i + k * m) m) tail ∙ rw (bytes_length kind bytes len (i + k * m) m))
-
--- Rows of no byte.
-pub rows_of_none : (kind : ByteDigits) (bytes : List ℕ) (len i : ℕ) (tail : List ℕ) (n : ℕ) → rows_text kind bytes len i 0 tail n ≡ pieces (λ k. tail) n
-unfolding rows_text
-rows_of_none kind bytes len i tail n = pieces_equal _ _ n (λ k h. ap (λ (t : List ℕ). t ++ tail) (bytes_none kind bytes len (i + k * 0)))
 
 -- One row of one byte more.
 pub singles_next : (kind : ByteDigits) (bytes : List ℕ) (len i : ℕ) (tail : List ℕ) (n : ℕ)

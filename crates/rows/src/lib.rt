@@ -4,7 +4,6 @@
 #![tactic(auto)]
 
 ghost use Rattle.std.specs.Prelude.{MatchOption, ◌≡◌, ◌≢◌, [], ◌∷◌, ◌++◌, ◌+◌, ◌*◌, ◌%◌, ◌≤◌, ◌<◌, length};
-ghost use Rattle.output.specs.Pieces.{pieces};
 ghost use Rattle.output.specs.Writes.{Writes};
 ghost use Rattle.rows.specs.declared.ByteDigits.{ByteDigits};
 ghost use Rattle.rows.specs.declared.ByteDigits.TheVariants.{Hex};
@@ -100,6 +99,7 @@ fn put_two(out: &mut [u8], at: usize, kind: ByteDigits, first: u8, second: u8) -
 }
 
 // Stores the bytes of a row: two and four of them by two.
+#[inline(always)]
 fn put_row(out: &mut [u8], at: usize, kind: ByteDigits, row: &[u8]) -> usize
     requires { at + length row.now * digits_per_byte kind ≤ length out.old }
     ensures { Writes (slice_text kind row.now) out.old at out.new result }
@@ -140,13 +140,27 @@ fn put_chunks(
     next
 }
 
-// Stores rows of no byte: what stands behind each.
-fn put_tails(out: &mut [u8], at: usize, tail: &[u8], count: usize) -> usize
-    requires { at + count * length tail.now ≤ length out.old }
-    ensures { Writes (pieces (λ k. tail.now) count) out.old at out.new result }
+// Stores the bytes in `count` rows of any width, and `tail` behind each. The rows are counted, since
+// `chunks_exact` wants a width above 0; with chunks where it is above 0, rows of eight bytes in
+// hexadecimal took four times as long.
+fn put_wide(
+    out: &mut [u8],
+    at: usize,
+    kind: ByteDigits,
+    bytes: WholeBytes,
+    width: usize,
+    tail: &[u8],
+    count: usize,
+) -> usize
+    requires size { bytes.count ≡ count * width }
+    requires room { at + count * (width * digits_per_byte kind + length tail.now) ≤ length out.old }
+    ensures { Writes (rows_text kind bytes.entry.image.bytes.now bytes.entry.image.len bytes.entry.first width tail.now count) out.old at out.new result }
 {
+    let all = bytes.slice();
     let mut next = at;
-    for _ in 0..count {
+    for k in 0..count {
+        let place = k * width;
+        next = put_slice(out, next, kind, &all[place..place + width]);
         next = output::put_text(out, next, tail);
     }
     next
@@ -181,12 +195,11 @@ pub fn put_rows(
     ensures { Writes (rows_text kind bytes.entry.image.bytes.now bytes.entry.image.len bytes.entry.first width tail.now count) out.old at out.new result }
 {
     match (width, tail) {
-        (0, _) => put_tails(out, at, tail, count),
         (1, [a]) if 8 <= count => put_chunks(out, at, kind, bytes, 1, &[*a], count),
         (1, [a, b]) if 8 <= count => put_chunks(out, at, kind, bytes, 1, &[*a, *b], count),
         (1, _) => put_chunks(out, at, kind, bytes, 1, tail, count),
         (2, [a]) => put_chunks(out, at, kind, bytes, 2, &[*a], count),
         (4, [a]) => put_chunks(out, at, kind, bytes, 4, &[*a], count),
-        _ => put_chunks(out, at, kind, bytes, width, tail, count),
+        _ => put_wide(out, at, kind, bytes, width, tail, count),
     }
 }

@@ -5,8 +5,8 @@ use mathlib.Core.List.{List, [], ◌∷◌, ◌++◌, append-nil, append_assoc}
 use Prim.Native.Nat.{ℕ, zero, suc, ◌+◌, ◌-◌, ◌*◌, ◌≤◌, ◌<◌}
 use native.Mathlib.Omega.{arith}
 use native.Mathlib.Nat.{zero-add, add-mul, suc-mul, zero-mul, mul-le-mul_right}
-use lib.ListN.{length, get_or, take, drop, length-append, length-drop, drop_of_length-le, take-append-drop}
-use lib.Seq.{sets, sets-eq, length-take-le, take_at, drop_at, drop-cons, take-add, take-append_seam, drop-append_seam, drop-drop}
+use lib.ListN.{length, take, drop, length-append, length-drop, drop_of_length-le, take-append-drop}
+use lib.Seq.{sets, sets-eq, length-take-le, take_at, drop_at, take-add, take-append_seam, drop-append_seam, drop-drop}
 use Rattle.std.proofs.lemmas.List.{drop-take, take-take}
 use Rattle.output.proofs.Order.{by_order, stride}
 use Rattle.output.specs.Pieces.{pieces}
@@ -62,6 +62,17 @@ parts_length s size tail n l =
     pieces_length _ (size + length tail) n
     (λ k h. length-append (take size (drop (k * size) s)) tail ∙ rw (part_length s (k * size) size (omega (arith, stride k n size h))))
 
+-- Part k of n is in a text that has all of them.
+pub part_within : (s : List ℕ) (size n k : ℕ) → n * size ≤ length s → k < n → k * size + size ≤ length s
+part_within s size n k l h = omega (arith, stride k n size h)
+
+-- There is room for it and a character behind it where there is room for all.
+pub parts_room : (s : List ℕ) (size tail n k at long : ℕ) → n * size ≤ length s → at + n * (size + 1) ≤ long → k < n
+    → at + length (parts_text s size (tail ∷ []) k) + (length (take size (drop (k * size) s)) + 1) ≤ long
+parts_room s size tail n k at long l room h =
+    let inside = part_within s size n k l h in
+    omega (arith, stride k n (size + 1) h, parts_length s size (tail ∷ []) k (omega arith), part_length s (k * size) size inside)
+
 pub headed_none : (s : List ℕ) (size i : ℕ) (head : List ℕ) → headed_text s size i head 0 ≡ []
 unfolding headed_text
 headed_none s size i head = pieces_none _
@@ -95,6 +106,11 @@ part_taken s x t size n k p all r e l =
       rw (zero-add k, here) (sym front),
       sym back ∙ rw (← here) (drop-drop size (k * size) s) ∙ ap (λ (i : ℕ). drop i s) behind,
     )
+
+-- There is room for it and a text before it where there is room for all.
+pub part_room : (s x t head : List ℕ) {rest : List ℕ} (size n k at long : ℕ) → 0 < size → length s ≡ n * size → rest ≡ drop (k * size) s → rest ≡ x ++ t → length x ≡ size
+    → at + n * (length head + size) ≤ long → at + k * (length head + size) + (length head + size) ≤ long
+part_room s x t head size n k at long p all r e l room = omega (arith, stride k n (length head + size) (part_taken s x t size n k p all r e l).0, room)
 
 -- Behind the last of n parts no whole one is left.
 pub all_taken : (s : List ℕ) {rest : List ℕ} (size n k : ℕ) → length s ≡ n * size → rest ≡ drop (k * size) s → length rest < size → k ≤ n → k ≡ n

@@ -18,8 +18,7 @@ fn put_fixed<const N: usize>(out: &mut [u8], at: usize, part: &[u8]) -> usize
     output::put_all(out, at, &copied)
 }
 
-// Stores a part of `N` to twice as many characters, as two stores of `N` that may overlap: a copy of
-// another length is a call.
+// Stores a part of `N` to twice as many characters, as two stores of `N` that may overlap.
 fn put_overlapping<const N: usize>(out: &mut [u8], at: usize, part: &[u8]) -> usize
     requires size { (N ≤ length part.now) × (length part.now ≤ N + N) }
     requires room { at + length part.now ≤ length out.old }
@@ -30,36 +29,25 @@ fn put_overlapping<const N: usize>(out: &mut [u8], at: usize, part: &[u8]) -> us
     put_fixed::<N>(out, at + behind, &part[behind..])
 }
 
-// Stores a part whose size is not a power of two.
-fn put_odd(out: &mut [u8], at: usize, part: &[u8]) -> usize
-    requires { at + length part.now ≤ length out.old }
-    ensures { Writes part.now out.old at out.new result }
-{
-    match part.len() {
-        3 => put_overlapping::<2>(out, at, part),
-        5..=7 => put_overlapping::<4>(out, at, part),
-        9..=16 => put_overlapping::<8>(out, at, part),
-        _ => output::put_all(out, at, part),
-    }
-}
-
-// Stores a part.
+// Stores a part. One of up to sixteen characters is two stores, whose size goes by the part's. Tried:
+// a copy of the part's length is a call, which takes three to five times as long.
 pub fn put_part(out: &mut [u8], at: usize, part: &[u8]) -> usize
     requires { at + length part.now ≤ length out.old }
     ensures { Writes part.now out.old at out.new result }
 {
     match part.len() {
         1 => output::put(out, at, part[0]),
-        2 => put_fixed::<2>(out, at, part),
-        4 => put_fixed::<4>(out, at, part),
-        8 => put_fixed::<8>(out, at, part),
-        _ => put_odd(out, at, part),
+        2..=3 => put_overlapping::<2>(out, at, part),
+        4..=7 => put_overlapping::<4>(out, at, part),
+        8..=16 => put_overlapping::<8>(out, at, part),
+        _ => output::put_all(out, at, part),
     }
 }
 
 // Stores the first `count` parts of `s`, of `size` characters each, and a character behind each. The
 // sizes that digits of whole bytes have are numbers of the code, so that a part is one store. The
 // parts are counted, since they may have no characters, and `chunks_exact` wants some.
+#[tactic(auto, using(crate::proofs::Parts::part_within))]
 pub fn put_parts(out: &mut [u8], at: usize, s: &[u8], size: usize, tail: u8, count: usize) -> usize
     requires { (count * size ≤ length s.now) × (at + count * (size + 1) ≤ length out.old) }
     ensures { Writes (parts_text s.now size (tail ∷ []) count) out.old at out.new result }
@@ -82,14 +70,14 @@ fn put_after(out: &mut [u8], at: usize, s: &[u8], size: usize, head: &[u8], coun
 {
     let mut next = at;
     for part in s.chunks_exact(size) {
-        next = output::put_all(out, next, head);
+        next = put_part(out, next, head);
         next = put_part(out, next, part);
     }
     next
 }
 
 // Stores `count` parts of `s` from part `first` on, and `head` before each: heads of one or two
-// characters have loops of their own.
+// characters have loops of their own. Tried: one loop for all heads takes two to three times as long.
 pub fn put_headed(
     out: &mut [u8],
     at: usize,

@@ -14,7 +14,7 @@ use Rattle.output.proofs.Order.{by_order}
 use Rattle.output.proofs.Pieces.{pieces_append, pieces_equal}
 use Rattle.numbers.specs.declared.Letters.TheVariants.{Lower}
 use Rattle.numbers.specs.Digits.{digit_char, digits_of}
-use Rattle.eight_chars.specs.Word.{low_bytes}
+use Rattle.eight_chars.specs.Word.{low_bytes, lowest_bytes}
 use Rattle.word_digits.specs.Packed.{packed}
 
 -- Each number of a list is below n.
@@ -160,7 +160,7 @@ cut e word = bit_and word (packed 65536 (like (2 ^ (e + e) - 2 ^ e) (pairs_of e 
 
 -- Where no digit is a letter, they and 48 in each byte are the number's characters.
 pub plain_word : (e v : ℕ) → e ≤ 3 → low_bytes (cut e (packed 65536 (pairs_of e v)) + packed 256 (like 48 (apart e (pairs_of e v)))) ≡ digits_of e 8 v
-unfolding low_bytes
+unfolding lowest_bytes
 plain_word e v h =
     let few = pow_mono {i = e} {j = 3} h in
     let fit = pow_mono {i = e + e} {j = 16} (omega (arith, h)) in

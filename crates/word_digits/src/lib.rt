@@ -90,9 +90,9 @@ pub fn put_eight(out: &mut [u8], at: usize, word: u64, width: DigitWidth) -> usi
     ensures { Writes (digits_of width.bits 8 word) out.old at out.new result }
 {
     match width.bits {
-        2 => eight_chars::put_word(out, at, two_word(word)),
-        3 => eight_chars::put_word(out, at, three_word(word)),
-        5 => eight_chars::put_word(out, at, five_word(word)),
+        2 => eight_chars::put_low::<8>(out, at, two_word(word)),
+        3 => eight_chars::put_low::<8>(out, at, three_word(word)),
+        5 => eight_chars::put_low::<8>(out, at, five_word(word)),
         _ => put_digits(out, at, width, word, 8),
     }
 }

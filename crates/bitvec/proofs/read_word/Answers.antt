@@ -1,4 +1,4 @@
--- `bitvec::read_word` meets its contract: the copy's bytes, the first highest, are eight bytes of the image.
+-- `bitvec::read_word` meets its contract: the bytes of the part, the first highest, are eight bytes of the image.
 -- Assumes nothing.
 use Rattle.std.proofs.Common.{◌≡◌, ◌+◌, ◌-◌, ◌*◌, ◌<◌, ℕ, arith, length, ◌∙◌, refl, slice_index, get_or-take, get_or-drop}
 use lib.ListN.{get_or, drop}
@@ -9,8 +9,9 @@ pub returns : goal.returns
 returns c =
     let bytes = c.args.bytes.now in
     let at = c.args.at in
-    let copied : (k j : ℕ) → k < 8 → j ≡ at + k → slice_index c.copy_from_slice.new.self k ≡ get_or bytes j 0 =
-    λ k j h e. rw (c.copy_from_slice.ensures.after, e) (get_or-take (at + 8 - at) (drop at bytes) k 0 (omega arith) ∙ get_or-drop at bytes k 0) in
+    let same = (rw c.unwrap-word.ensures at c.try_from.ensures).1.same in
+    let copied : (k j : ℕ) → k < 8 → j ≡ at + k → slice_index c.unwrap-word.result k ≡ get_or bytes j 0 =
+    λ k j h e. rw (same, e) (get_or-take (at + 8 - at) (drop at bytes) k 0 (omega arith) ∙ get_or-drop at bytes k 0) in
     let whole = eight_bytes bytes (8 * length bytes) at (omega (arith, c.requires)) (λ j. (c.type_inv.bytes j).fits) in
     omega (
       arith,

@@ -7,7 +7,7 @@ use lib.Dec.{T}
 use Rattle.output.specs.Pieces.{pieces}
 use Rattle.numbers.specs.Digits.{digit_char, digits_of}
 use Rattle.output.proofs.Exhaust.{all, same, exhaust}
-use Rattle.eight_chars.specs.Word.{low_bytes}
+use Rattle.eight_chars.specs.Word.{low_bytes, lowest_bytes}
 use Rattle.eight_chars.proofs.digit_word.Goals as goal
 
 -- the word, as the code computes it
@@ -18,7 +18,7 @@ word b =
     bit_or ones 3472328296227680304
 
 right : T (all (λ b. same (low_bytes (word b)) (digits_of 1 8 b)) 256)
-unfolding low_bytes digits_of pieces digit_char
+unfolding lowest_bytes digits_of pieces digit_char
 right = tt
 
 pub returns : goal.returns

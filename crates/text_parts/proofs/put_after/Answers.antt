@@ -1,50 +1,37 @@
 -- `text_parts::put_after` meets its contract: after k turns k parts are written, and the others are left.
 -- Assumes nothing.
 use mathlib.Core.Path.{◌≡◌, refl}
-use Prim.Native.Nat.{◌+◌, ◌*◌, ◌≤◌}
+use Prim.Native.Nat.{◌+◌}
 use native.Mathlib.Omega.{arith}
 use native.Mathlib.Nat.{zero-mul, add-zero, suc-mul}
 use lib.ListN.{length}
 use borrow.Author.Rules.{rules}
 use Rattle.std.proofs.lemmas.List.{length_push}
-use Rattle.output.proofs.Order.{stride}
 use Rattle.output.proofs.Writes.{writes_nothing, writes_then, writes_length}
-use Rattle.text_parts.proofs.Parts.{part_taken, all_taken, headed_none, headed_next}
+use Rattle.text_parts.proofs.Parts.{part_taken, part_room, all_taken, headed_none, headed_next}
 use Rattle.text_parts.proofs.put_after.Goals as goal
 
 pub loop-part-init : goal.loop-part-init
 loop-part-init c =
     (search rules, rw zero-mul (search rules), search rules, rw (zero-mul, add-zero) refl, rw (headed_none _ _ _ _) (writes_nothing _ _), refl)
 
-pub put_all-next-requires : goal.put_all-next-requires
-put_all-next-requires c =
-    let a = c.args in
-    let l = c.loop-part in
-    let k = length l.yielded in
-    let part = c.in-Some.part.now in
-    let step = c.in-Some.ensures.steps in
-    let taken = part_taken a.s.now part _ a.size a.count k c.requires.0 c.requires.1 l.invariant.1 step.1.0 (omega (arith, step.1.1, l.invariant.0)) in
-    omega (arith, l.invariant.3, l.invariant.5, stride k a.count (length a.head.now + a.size) taken.0, c.requires.2)
-
 pub put_part-next-requires : goal.put_part-next-requires
 put_part-next-requires c =
     let a = c.args in
     let l = c.loop-part in
-    let k = length l.yielded in
-    let part = c.in-Some.part.now in
     let step = c.in-Some.ensures.steps in
-    let taken = part_taken a.s.now part _ a.size a.count k c.requires.0 c.requires.1 l.invariant.1 step.1.0 (omega (arith, step.1.1, l.invariant.0)) in
-    omega (
-      arith,
-      l.invariant.0,
-      l.invariant.3,
-      l.invariant.5,
-      stride k a.count (length a.head.now + a.size) taken.0,
-      c.requires.2,
-      step.1.1,
-      c.put_all-next.ensures.next,
-      writes_length c.put_all-next.ensures,
-    )
+    let size : length c.in-Some.part.now ≡ a.size = omega (arith, step.1.1, l.invariant.0) in
+    let room = part_room a.s.now c.in-Some.part.now _ a.head.now a.size a.count (length l.yielded) a.at (length a.out.now) c.requires.0 c.requires.1 l.invariant.1 step.1.0 size c.requires.2 in
+    omega (arith, room, l.invariant.3, l.invariant.5)
+
+pub put_part-next-requires-in-loop-part : goal.put_part-next-requires-in-loop-part
+put_part-next-requires-in-loop-part c =
+    let a = c.args in
+    let l = c.loop-part in
+    let step = c.in-Some.ensures.steps in
+    let size : length c.in-Some.part.now ≡ a.size = omega (arith, step.1.1, l.invariant.0) in
+    let room = part_room a.s.now c.in-Some.part.now _ a.head.now a.size a.count (length l.yielded) a.at (length a.out.now) c.requires.0 c.requires.1 l.invariant.1 step.1.0 size c.requires.2 in
+    omega (arith, room, size, l.invariant.3, l.invariant.5, c.put_part-next.ensures.next, writes_length c.put_part-next.ensures)
 
 pub loop-part-preserved : goal.loop-part-preserved
 loop-part-preserved c =
@@ -59,9 +46,9 @@ loop-part-preserved c =
       rw one_more taken.2,
       omega (arith, one_more, taken.0),
       rw one_more
-          (omega (arith, suc-mul k (length a.head.now + a.size), l.invariant.0, l.invariant.3, step.1.1, c.put_all-next.ensures.next, c.put_part-next.ensures.next)),
-      rw (one_more, headed_next a.s.now a.size 0 a.head.now k, ← taken.1) (writes_then l.invariant.4 (writes_then c.put_all-next.ensures c.put_part-next.ensures)),
-      omega (arith, l.invariant.5, writes_length c.put_all-next.ensures, writes_length c.put_part-next.ensures),
+          (omega (arith, suc-mul k (length a.head.now + a.size), l.invariant.0, l.invariant.3, step.1.1, c.put_part-next.ensures.next, c.put_part-next-in-loop-part.ensures.next)),
+      rw (one_more, headed_next a.s.now a.size 0 a.head.now k, ← taken.1) (writes_then l.invariant.4 (writes_then c.put_part-next.ensures c.put_part-next-in-loop-part.ensures)),
+      omega (arith, l.invariant.5, writes_length c.put_part-next.ensures, writes_length c.put_part-next-in-loop-part.ensures),
     )
 
 pub returns : goal.returns

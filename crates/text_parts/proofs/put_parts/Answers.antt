@@ -2,55 +2,33 @@
 -- Assumes nothing.
 use mathlib.Core.Path.{◌≡◌, refl}
 use mathlib.Core.List.{[], ◌∷◌}
-use Prim.Native.Nat.{◌+◌, ◌-◌, ◌*◌, ◌≤◌}
+use Prim.Native.Nat.{◌+◌, ◌-◌, ◌*◌}
 use native.Mathlib.Omega.{arith}
 use lib.ListN.{length}
 use borrow.Author.Rules.{rules}
 use Rattle.output.proofs.Writes.{writes_nothing, writes_then, writes_length}
-use Rattle.output.proofs.Order.{stride}
-use Rattle.text_parts.proofs.Parts.{part_length, parts_none, parts_next, parts_length}
+use Rattle.text_parts.proofs.Parts.{parts_none, parts_next, parts_room}
 use Rattle.text_parts.proofs.put_parts.Goals as goal
 
 pub loop-k-init : goal.loop-k-init
 loop-k-init c = (search rules, rw (parts_none _ _ _) (writes_nothing _ _), refl)
 
-pub overflow_mul-from : goal.overflow_mul-from
-overflow_mul-from c =
-    let a = c.args in
-    let k = c.loop-k.k in
-    let inside : k * a.size + a.size ≤ length a.s.now = omega (arith, stride k a.count a.size c.loop-k-test.true, c.requires.0) in
-    omega (arith, inside)
-
-pub overflow_add-from : goal.overflow_add-from
-overflow_add-from c =
-    let a = c.args in
-    let k = c.loop-k.k in
-    let inside : k * a.size + a.size ≤ length a.s.now = omega (arith, stride k a.count a.size c.loop-k-test.true, c.requires.0) in
-    omega (arith, inside)
-
 pub put_part-next-requires : goal.put_part-next-requires
 put_part-next-requires c =
     let a = c.args in
-    let k = c.loop-k.k in
-    let inside : k * a.size + a.size ≤ length a.s.now = omega (arith, stride k a.count a.size c.loop-k-test.true, c.requires.0) in
     let l = c.loop-k in
-    let room = stride k a.count (a.size + 1) c.loop-k-test.true in
-    let written = parts_length a.s.now a.size (a.tail ∷ []) k (omega (arith, inside)) in
-    let size : k * a.size + a.size - k * a.size ≡ a.size = omega arith in
-    rw (size, part_length a.s.now (k * a.size) a.size inside) (omega (arith, l.invariant.1.next, written, room, c.requires.1))
+    let size : l.k * a.size + a.size - l.k * a.size ≡ a.size = omega arith in
+    rw size
+    (omega (arith, parts_room a.s.now a.size a.tail a.count l.k a.at (length a.out.now) c.requires.0 c.requires.1 c.loop-k-test.true, l.invariant.1.next, l.invariant.2))
 
 pub put-next-requires : goal.put-next-requires
 put-next-requires c =
     let a = c.args in
-    let k = c.loop-k.k in
-    let inside : k * a.size + a.size ≤ length a.s.now = omega (arith, stride k a.count a.size c.loop-k-test.true, c.requires.0) in
     let l = c.loop-k in
-    let room = stride k a.count (a.size + 1) c.loop-k-test.true in
-    let written = parts_length a.s.now a.size (a.tail ∷ []) k (omega (arith, inside)) in
-    let size : k * a.size + a.size - k * a.size ≡ a.size = omega arith in
-    let part = part_length a.s.now (k * a.size) a.size inside in
+    let size : l.k * a.size + a.size - l.k * a.size ≡ a.size = omega arith in
     let wrote = rw size at c.put_part-next.ensures in
-    omega (arith, l.invariant.1.next, written, room, c.requires.1, wrote.next, writes_length c.put_part-next.ensures, part)
+    omega
+    (arith, parts_room a.s.now a.size a.tail a.count l.k a.at (length a.out.now) c.requires.0 c.requires.1 c.loop-k-test.true, l.invariant.1.next, l.invariant.2, wrote.next, writes_length wrote)
 
 pub loop-k-preserved : goal.loop-k-preserved
 loop-k-preserved c =

@@ -5,7 +5,7 @@ use Prim.Native.Nat.{ℕ, ◌+◌, ◌*◌, ◌/◌, ◌≤◌}
 use native.Mathlib.Omega.{arith}
 use lib.Bits.{bit_and, and_le_r}
 use Rattle.numbers.specs.Digits.{digits_of}
-use Rattle.eight_chars.specs.Word.{low_bytes}
+use Rattle.eight_chars.specs.Word.{low_bytes, lowest_bytes}
 use Rattle.word_digits.specs.Packed.{packed}
 use Rattle.word_digits.proofs.Packed.{apart, packed_bytes, pairs_of, pairs_below, apart_below, pairs_digits, pairs_apart, chars_small, letter_chars}
 use Rattle.word_digits.proofs.five_word.Goals as goal
@@ -23,7 +23,7 @@ letters word = bit_and ((digits word + 8536140394893047414) / 128) 7234017283807
 
 right : (v : ℕ)
     → (let word = packed 65536 (pairs_of 5 v) in low_bytes (digits word + 3472328296227680304 + letters word * 39)) ≡ digits_of 5 8 v
-unfolding packed low_bytes
+unfolding packed lowest_bytes
 right v =
     ap (λ (x : ℕ). low_bytes (x + 3472328296227680304 + bit_and ((x + 8536140394893047414) / 128) 72340172838076673 * 39)) (pairs_apart 5 (pairs_of 5 v) (omega arith) (pairs_below 5 v (omega arith)))
     ∙ ap low_bytes (letter_chars (apart 5 (pairs_of 5 v)) (apart_below 5 32 (pairs_of 5 v) (omega arith)))
