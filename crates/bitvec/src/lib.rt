@@ -151,7 +151,8 @@ impl<'a> Image<'a> {
         ((pair >> behind) % base) as u8
     }
 
-    // The digit that `width` bits from `offset` on make, at most eight of them.
+    // The digit that `width` bits from `offset` on make, at most eight of them. The width is a number:
+    // a type of at most eight would be made at each call, from widths that have types of their own.
     pub fn read_bits(self, offset: BitOffset, width: usize) -> u8
         requires { (width ≤ 8) × (offset.0 + width < 2 ^ 64) }
         ensures { result ≡ bits_at self.entry.bytes.now self.entry.len offset.0 width }

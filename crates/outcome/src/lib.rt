@@ -70,6 +70,7 @@ pub fn outside(low: usize, high: usize, option: usize) -> bool
 }
 
 // Whether a string is longer than 256 bytes, which is outside its range.
+#[tactic(auto, unfolding(crate::specs::Outcome::too_long))]
 pub fn too_long(s: &[u8]) -> bool
     ensures { result ≡ too_long s.now }
 {
