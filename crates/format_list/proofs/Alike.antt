@@ -5,11 +5,11 @@ use mathlib.Core.Bool.{Bool, true, false, cond, not, ◌&&◌}
 use mathlib.Core.List.{List, [], ◌∷◌, ◌++◌, append_assoc}
 use Prim.Native.Nat.{ℕ, suc, ◌+◌, ◌-◌, ◌*◌, ◌/◌, ◌%◌, ◌<◌, ◌≤◌}
 use native.Mathlib.Omega.{arith}
-use native.Mathlib.Nat.{mul_assoc, add-mul, mul-one, mul-le-mul_left, suc-mul, mul-mod_left, add-div_right, div-add-mod'}
+use native.Mathlib.Nat.{mul_assoc, add-mul, suc-mul, mul-mod_left, add-div_right}
 use lib.Arith.{digits_mod}
 use lib.Dec.{eqb}
 use lib.ListN.{length, length-append}
-use borrow.Author.Tests.{ne_eqb, eqb-true}
+use borrow.Author.Tests.{ne_eqb}
 use Rattle.output.specs.Pieces.{pieces, leading, joined}
 use Rattle.output.proofs.Joined.{joined_alike}
 use Rattle.output.proofs.Pieces.{pieces_equal}
@@ -21,7 +21,7 @@ use Rattle.bases.specs.Base.{base_bits}
 use Rattle.digits.proofs.Run.{bytes_run}
 use Rattle.format_list.specs.declared.FormatListOptions.{FormatListOptions}
 use Rattle.format_list.specs.List.{group_bits, group_text, between_groups}
-use Rattle.format_list.specs.Bytes.{whole_bytes, group_bytes, group_kind, alike}
+use Rattle.format_list.specs.Bytes.{whole_bytes, group_bytes, alike}
 use Rattle.format_list.proofs.Lengths.{group_length}
 
 -- A group of some bytes has eight bits for each.
@@ -33,30 +33,15 @@ group_bits_lem o kind wide b d = rw (b, d) (eight kind)
     eight Binary = omega arith
     eight Hex = omega arith
 
--- Digits that are whole bytes are those of their bytes.
-whole_digits : (digits n : ℕ) → 0 < whole_bytes digits n → digits ≡ whole_bytes digits n * n
-unfolding whole_bytes
-whole_digits digits n p = go (eqb (digits % n) 0) refl p
-  where
-    go : (t : Bool) → eqb (digits % n) 0 ≡ t → 0 < cond t (digits / n) 0 → digits ≡ cond t (digits / n) 0 * n
-    go true e h = omega (arith, div-add-mod' digits n, eqb-true (digits % n) 0 e)
-    go false e h = absurd (omega arith)
+-- A group of other digits is not whole bytes, and neither is one with digits left.
+pub other_digits : (w digits : ℕ) → ((kind : ByteDigits) → w ≡ digit_bits kind → ⊥) → group_bytes w digits ≡ 0
+unfolding group_bytes
+other_digits w digits n = simp (ne_eqb w 4 (n Hex), ne_eqb w 1 (n Binary))
 
--- So are those of a group, where it has bytes.
-pub bytes_digits : (w digits : ℕ) → 0 < group_bytes w digits → (w ≡ digit_bits (group_kind w)) × (digits ≡ group_bytes w digits * digits_per_byte (group_kind w))
-unfolding group_bytes group_kind
-bytes_digits w digits p = go (eqb w 4) (eqb w 1) refl refl p
-  where
-    go : (t u : Bool) → eqb w 4 ≡ t → eqb w 1 ≡ u → 0 < cond t (whole_bytes digits 2) (cond u (whole_bytes digits 8) 0)
-        → (w ≡ digit_bits (cond t Hex Binary)) × (digits ≡ cond t (whole_bytes digits 2) (cond u (whole_bytes digits 8) 0) * digits_per_byte (cond t Hex Binary))
-    go true u e f h = (eqb-true w 4 e, whole_digits digits 2 h)
-    go false true e f h = (eqb-true w 1 f, whole_digits digits 8 h)
-    go false false e f h = absurd (omega arith)
-
--- A group has no more bytes than digits.
-pub bytes_few : (kind : ByteDigits) (wide : ℕ) → wide ≤ wide * digits_per_byte kind
-bytes_few Binary wide = omega arith
-bytes_few Hex wide = omega arith
+pub digits_left : (kind : ByteDigits) (w digits : ℕ) → w ≡ digit_bits kind → (digits % digits_per_byte kind ≡ 0 → ⊥) → group_bytes w digits ≡ 0
+unfolding group_bytes whole_bytes
+digits_left Binary w digits e n = rw e (simp (ne_eqb (digits % 8) 0 n))
+digits_left Hex w digits e n = rw e (simp (ne_eqb (digits % 2) 0 n))
 
 -- It is whole bytes in digits.
 group_bytes_lem : (o : FormatListOptions) (kind : ByteDigits) (wide : ℕ) → base_bits o.base ≡ digit_bits kind → o.digits_per_group ≡ wide * digits_per_byte kind
@@ -117,13 +102,6 @@ closed_rows o kind wide b d bytes len between k n p =
 pub bytes_place : (k n wide : ℕ) → (k * wide + n * wide) * 8 ≡ (k + n) * (wide * 8)
 bytes_place k n wide = rw (← add-mul k n wide, mul_assoc (k + n) wide 8)
 
--- A group that is within the image has a number below its bits.
-pub place_small : (k wide bits : ℕ) → 0 < wide → k * (wide * 8) ≤ bits → k ≤ bits
-place_small k wide bits p h = omega (arith, rw mul-one at (mul-le-mul_left k (one p)))
-  where
-    one : 0 < wide → 1 ≤ wide * 8
-    one q = omega arith
-
 -- A segment has groups where there are any.
 pub segment_some : {size count n : ℕ} (s : List ℕ) → (0 < length s → 0 < n) → 0 < count → size ≡ cond (eqb (length s) 0) count n → 0 < size
 segment_some [] h p e = omega (arith, e)
@@ -177,6 +155,15 @@ segment_text o between between2 bytes len size count k n e h l =
     (λ j p m.
     let place : k / size * size + (j - k) ≡ j = omega arith in
     rw place at (first_between o between between2 size count (k / size) (j - k) e (omega arith) (omega arith)))
+
+-- The last segment's groups, which are at most as many.
+pub last_segment : (o : FormatListOptions) (between between2 bytes : List ℕ) (len size count k : ℕ) → size ≡ cond (eqb (length between2) 0) count o.groups_per_group2
+    → k / size * size ≡ k → k < count → count - k ≤ size
+    → joined (between_groups o between between2) (group_text o bytes len) count
+    ≡ (joined (between_groups o between between2) (group_text o bytes len) k ++ leading (between_groups o between between2) k) ++ alike o bytes len between k (count - k - 1)
+last_segment o between between2 bytes len size count k e h p l =
+    let all : k + (count - k - 1) + 1 ≡ count = omega arith in
+    rw all at (segment_text o between between2 bytes len size count k (count - k - 1) e h (omega arith))
 
 -- A whole segment with the second string behind it.
 pub closed_text : (o : FormatListOptions) (between between2 bytes : List ℕ) (len size count k : ℕ) → size ≡ cond (eqb (length between2) 0) count o.groups_per_group2

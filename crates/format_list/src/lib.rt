@@ -2,20 +2,22 @@
 // answers a text and its length, or refusal 1, 2 or 8.
 #![tactic(auto)]
 
-ghost use Rattle.std.specs.Prelude.{◌≡◌, cond, not, IfSome, IfNone, ◌||◌, ◌&&◌, ◌++◌, ◌+◌, ◌-◌, ◌*◌, ◌≤◌, ◌<◌, ◌^◌, eqb, length};
-ghost use Rattle.bitvec.specs.Size.{ceil_div};
-ghost use Rattle.output.specs.Pieces.{pieces, joined, leading};
+ghost use Rattle.std.specs.Prelude.{◌≡◌, true, false, cond, MatchOption, ◌||◌, ◌++◌, ◌+◌, ◌-◌, ◌*◌, ◌≤◌, ◌<◌, ◌^◌, eqb, length};
+ghost use Rattle.output.specs.Pieces.{pieces, leading};
 ghost use Rattle.output.specs.Writes.{Writes};
 ghost use Rattle.outcome.specs.Outcome.{too_long, Exports};
-ghost use Rattle.rows.specs.Rows.{digits_per_byte, digit_bits};
 ghost use Rattle.bases.specs.Base.{base_bits};
-ghost use Rattle.format_list.specs.List.{group_bits, group_text, between_groups, list_text, bad_list, list_outcome};
-ghost use Rattle.format_list.specs.Bytes.{alike, group_bytes, group_kind};
+ghost use Rattle.format_list.specs.List.{list_outcome};
+ghost use Rattle.format_list.specs.Bytes.{group_bytes};
+ghost use Rattle.format_list.specs.Groups.{bad_given, between_of, groups_of, count_of, alike_of, list_of};
 
-use bitvec::{BitOffset, Image};
+use bitvec::{BitOffset, Image, WholeBytes};
 use digit_groups::{DigitGroups, Strings};
 use outcome::{Export, Refusal};
 use rows::ByteDigits;
+use shape::{ByteGroups, ListGroups, ListOptions};
+
+mod shape;
 
 // The options of a list but its strings.
 #[derive(Clone, Copy)]
@@ -46,232 +48,208 @@ impl<'a> ListStrings<'a> {
     }
 }
 
-// A group that is whole bytes: how its digits are written, and how many bytes it has.
-#[derive(Clone, Copy)]
-struct ByteGroup {
-    kind: ByteDigits,
-    bytes: usize,
-}
-
-// Whether the second string between groups is there and has no place.
-fn no_place(groups_per_group2: usize, between2: &[u8]) -> bool
-    ensures { result ≡ not (eqb (length between2.now) 0) && eqb groups_per_group2 0 }
-{
-    between2.len() != 0 && groups_per_group2 == 0
-}
-
-// Whether an option but the base is outside its range.
+// Whether an option but the base is outside its range, or the second string is there and has no place.
 #[tactic(auto, unfolding(crate::specs::List::bad_list))]
 fn bad_list(options: FormatListOptions, strings: ListStrings) -> bool
     requires { 0 < base_bits options.base }
-    ensures { result ≡ bad_list options strings.entry.before.now strings.entry.after.now strings.entry.between.now strings.entry.between2.now }
+    ensures { result ≡ bad_given options strings.entry }
 {
     outcome::outside(1, 64, options.digits_per_group)
         || 65535 < options.groups_per_group2
-        || no_place(options.groups_per_group2, strings.between2)
+        || strings.between2.len() != 0 && options.groups_per_group2 == 0
         || strings.too_long()
 }
 
-// The length of the strings between `count` groups.
-fn strings_length(options: FormatListOptions, strings: ListStrings, count: usize) -> usize
-    requires { (count < 2 ^ 32) × (length strings.between.now ≤ 256) × (length strings.between2.now ≤ 256) × (0 < length strings.between2.now → 0 < options.groups_per_group2) }
-    ensures { (result ≡ length (pieces (leading (between_groups options strings.entry.between.now strings.entry.between2.now)) count)) × (result < 2 ^ 60) }
-{
-    let one = strings.between.len();
-    let two = strings.between2.len();
-    if two == 0 {
-        return output::between_length(count, 1, one, one);
-    }
-    output::between_length(count, options.groups_per_group2, two, one)
-}
-
-// How many groups there are from one second string to the next: all, where there is none.
-fn segment(options: FormatListOptions, between2: &[u8], count: usize) -> usize
-    ensures { result ≡ cond (eqb (length between2.now) 0) count options.groups_per_group2 }
-{
-    if between2.len() == 0 {
-        return count;
-    }
-    options.groups_per_group2
-}
-
-// How many bits a digit has.
-fn bits_of(kind: ByteDigits) -> usize
-    ensures { result ≡ digit_bits kind }
-{
-    match kind {
-        ByteDigits::Binary => 1,
-        ByteDigits::Hex => 4,
-    }
-}
-
-// Stores `count` groups from group `k` on with `between` between them. All but the last are whole
-// bytes of the image.
-fn put_alike(
-    out: &mut [u8],
-    at: usize,
-    image: Image,
-    options: FormatListOptions,
-    group: ByteGroup,
-    between: &[u8],
-    k: usize,
-    count: usize,
-) -> usize
-    requires kind { (base_bits options.base ≡ digit_bits group.kind) × (options.digits_per_group ≡ group.bytes * digits_per_byte group.kind) }
-    requires inside { (0 < count) × ((k + (count - 1)) * (group.bytes * 8) ≤ image.len) × (image.len ≤ 8 * length image.bytes.now) × (image.len ≤ 16777216) × (0 < group.bytes) × (group.bytes ≤ 64) }
-    requires room { at + length (alike options image.bytes.now image.len between.now k (count - 1)) ≤ length out.old }
-    ensures { Writes (alike options image.entry.bytes.now image.entry.len between.now k (count - 1)) out.old at out.new result }
-{
-    let more = count - 1;
-    let wide = group.bytes;
-    let next = rows::put_rows(out, at, group.kind, image, k * wide, wide, between, more);
-    let from = BitOffset((k + more) * (wide * 8));
-    let width = bits_of(group.kind);
-    digits::put_run(out, next, image, width, from, options.digits_per_group)
-}
-
-// Stores `count` groups of whole bytes from group `k` on with `between` between them and `between2`
-// behind them. Where that is not the shorter string, `between` is written behind the last group too,
-// as behind the others, and then written over.
-fn put_closed(
-    out: &mut [u8],
-    at: usize,
-    image: Image,
-    options: FormatListOptions,
-    group: ByteGroup,
-    strings: ListStrings,
-    k: usize,
-    count: usize,
-) -> usize
-    requires kind { (base_bits options.base ≡ digit_bits group.kind) × (options.digits_per_group ≡ group.bytes * digits_per_byte group.kind) }
-    requires inside { (0 < count) × ((k + count) * (group.bytes * 8) ≤ image.len) × (image.len ≤ 8 * length image.bytes.now) × (image.len ≤ 16777216) × (0 < group.bytes) × (group.bytes ≤ 64) }
-    requires room { at + length (alike options image.bytes.now image.len strings.between.now k (count - 1) ++ strings.between2.now) ≤ length out.old }
-    ensures { Writes (alike options image.entry.bytes.now image.entry.len strings.entry.between.now k (count - 1) ++ strings.entry.between2.now) out.old at out.new result }
-{
-    let between = strings.between;
-    if strings.between2.len() < between.len() {
-        let end = put_alike(out, at, image, options, group, between, k, count);
-        return output::put_text(out, end, strings.between2);
-    }
-    let wide = group.bytes;
-    let next = rows::put_rows(out, at, group.kind, image, k * wide, wide, between, count);
-    output::put_text(out, next - between.len(), strings.between2)
-}
-
-// Stores `count` groups of whole bytes. The loop stops before the last segment, which has no string
-// behind it, so that a range in steps of `size` is no plainer.
-fn put_byte_groups(
-    out: &mut [u8],
-    at: usize,
-    image: Image,
-    options: FormatListOptions,
-    group: ByteGroup,
-    strings: ListStrings,
-    count: usize,
-) -> usize
-    requires kind { (base_bits options.base ≡ digit_bits group.kind) × (options.digits_per_group ≡ group.bytes * digits_per_byte group.kind) × (0 < length strings.between2.now → 0 < options.groups_per_group2) }
-    requires inside { (0 < count) × ((count - 1) * (group.bytes * 8) ≤ image.len) × (image.len ≤ 8 * length image.bytes.now) × (image.len ≤ 16777216) × (0 < group.bytes) × (group.bytes ≤ 64) }
-    requires room { at + length (joined (between_groups options strings.between.now strings.between2.now) (group_text options image.bytes.now image.len) count) ≤ length out.old }
-    ensures { Writes (joined (between_groups options strings.entry.between.now strings.entry.between2.now) (group_text options image.entry.bytes.now image.entry.len) count) out.old at out.new result }
-{
-    let size = segment(options, strings.between2, count);
-    let mut next = at;
-    let mut k = 0;
-    while size < count - k {
-        next = put_closed(out, next, image, options, group, strings, k, size);
-        k += size;
-    }
-    put_alike(
-        out,
-        next,
-        image,
-        options,
-        group,
-        strings.between,
-        k,
-        count - k,
-    )
-}
-
-// The bytes of a group of digits of `width` bits, where it is whole bytes of hexadecimal or binary digits.
-#[tactic(auto, unfolding(crate::specs::Bytes::whole_bytes, crate::specs::Bytes::group_bytes, crate::specs::Bytes::group_kind))]
-fn byte_group(width: usize, digits: usize) -> Option<ByteGroup>
-    requires { 0 < digits }
-    ensures some { IfSome result (λ g. (g.kind ≡ group_kind width) × (g.bytes ≡ group_bytes width digits) × (0 < g.bytes)) }
-    ensures none { IfNone result (group_bytes width digits ≡ 0) }
-{
-    if width == 4 && digits % 2 == 0 {
-        return Some(ByteGroup {
-            kind: ByteDigits::Hex,
-            bytes: digits / 2,
-        });
-    }
-    if width == 1 && digits % 8 == 0 {
-        return Some(ByteGroup {
-            kind: ByteDigits::Binary,
-            bytes: digits / 8,
-        });
-    }
-    None
-}
-
-// Stores `count` groups of digits of `width` bits: by bytes, where a group has whole bytes of
-// hexadecimal or binary digits.
-fn put_all_groups(
-    out: &mut [u8],
-    at: usize,
-    image: Image,
-    options: FormatListOptions,
-    strings: ListStrings,
-    width: usize,
-    count: usize,
-) -> usize
-    requires options { (0 < length strings.between2.now → 0 < options.groups_per_group2) × (width ≡ base_bits options.base) × (0 < options.digits_per_group) × (options.digits_per_group ≤ 64) }
-    requires size { (count * group_bits options < 2 ^ 32) × (count ≡ ceil_div image.len (group_bits options)) × (image.len ≤ 8 * length image.bytes.now) × (image.len ≤ 16777216) }
-    requires room { at + length (joined (between_groups options strings.between.now strings.between2.now) (group_text options image.bytes.now image.len) count) ≤ length out.old }
-    ensures { Writes (joined (between_groups options strings.entry.between.now strings.entry.between2.now) (group_text options image.entry.bytes.now image.entry.len) count) out.old at out.new result }
-{
-    if count == 0 {
-        return at;
-    }
-    let digits = options.digits_per_group;
-    let Some(group) = byte_group(width, digits) else {
-        let groups = DigitGroups {
-            image,
+impl<'a> ListOptions<'a> {
+    // The options and strings, or none where one of them is outside its range, the cause of refusal 2.
+    #[tactic(auto, using(crate::proofs::Ranges::no_base, crate::proofs::Ranges::digits_inside, crate::proofs::Ranges::placed, crate::proofs::Ranges::outer_short, crate::proofs::Ranges::inner_short))]
+    fn new(options: FormatListOptions, strings: ListStrings<'a>) -> Option<ListOptions<'a>>
+        ensures { MatchOption result (bad_given options strings.entry ≡ true) (λ o. (bad_given options strings.entry ≡ false) × (o.given ≡ options) × (o.strings ≡ strings.entry)) }
+    {
+        let width = bases::base_bits(options.base)?;
+        if bad_list(options, strings) {
+            return None;
+        }
+        Some(ListOptions {
+            given: options,
+            strings,
             width,
-            size: digits,
+        })
+    }
+
+    // How many groups there are from one second string to the next, where it is there.
+    fn every(self) -> Option<usize>
+        ensures { MatchOption result (length self.entry.strings.between2.now ≡ 0) (λ n. (n ≡ self.entry.given.groups_per_group2) × (0 < length self.entry.strings.between2.now)) }
+    {
+        if self.strings.between2.is_empty() {
+            return None;
+        }
+        Some(self.given.groups_per_group2)
+    }
+
+    // The same of `count` groups: all, where there is no second string.
+    fn segment(self, count: usize) -> usize
+        ensures { result ≡ cond (eqb (length self.entry.strings.between2.now) 0) count self.entry.given.groups_per_group2 }
+    {
+        self.every().unwrap_or(count)
+    }
+
+    // The length of the strings between `count` groups.
+    fn gaps_length(self, count: usize) -> usize
+        requires { count < 2 ^ 32 }
+        ensures { (result ≡ length (pieces (leading (between_of self.entry)) count)) × (result < 2 ^ 60) }
+    {
+        let one = self.strings.between.len();
+        match self.every() {
+            Some(every) => output::between_length(count, every, self.strings.between2.len(), one),
+            None => output::between_length(count, 1, one, one),
+        }
+    }
+}
+
+impl<'a> ListGroups<'a> {
+    // How many groups hold the image.
+    fn count(self) -> usize
+        ensures { (result ≡ count_of self.entry) × (result ≤ 16777216) }
+    {
+        let size = self.options.given.digits_per_group * self.options.width.bits;
+        bitvec::parts(self.good.image.len, size)
+    }
+
+    // The length of the list.
+    fn length(self) -> usize
+        ensures { result ≡ length (list_of self.entry) }
+    {
+        let count = self.count();
+        let strings = self.options.strings;
+        let gaps = self.options.gaps_length(count);
+        let groups = gaps + count * self.options.given.digits_per_group;
+        strings.before.len() + groups + strings.after.len()
+    }
+
+    // Stores the groups with the strings between them: by bytes, where a group has whole bytes of
+    // hexadecimal or binary digits.
+    fn put_groups(self, out: &mut [u8], at: usize) -> usize
+        requires { at + length (groups_of self (count_of self)) ≤ length out.old }
+        ensures { Writes (groups_of self.entry (count_of self.entry)) out.old at out.new result }
+    {
+        let count = self.count();
+        if count == 0 {
+            return at;
+        }
+        if let Some(groups) = ByteGroups::new(self) {
+            return groups.put(out, at, count);
+        }
+        let groups = DigitGroups {
+            image: self.good.image,
+            width: self.options.width,
+            size: self.options.given.digits_per_group,
         };
         let strings = Strings {
-            every: segment(options, strings.between2, count),
-            between: strings.between,
-            between2: strings.between2,
+            every: self.options.segment(count),
+            between: self.options.strings.between,
+            between2: self.options.strings.between2,
         };
-        return digit_groups::put_groups(out, at, groups, strings, count);
-    };
-    put_byte_groups(out, at, image, options, group, strings, count)
+        digit_groups::put_groups(out, at, groups, strings, count)
+    }
+
+    // Stores the list.
+    fn write(self, out: &mut [u8]) -> usize
+        requires { length (list_of self) ≤ length out.old }
+        ensures { Writes (list_of self.entry) out.old 0 out.new result }
+    {
+        let strings = self.options.strings;
+        let mut next = output::put_all(out, 0, strings.before);
+        next = self.put_groups(out, next);
+        output::put_all(out, next, strings.after)
+    }
 }
 
-// Stores the list of `count` groups.
-fn write_list(
-    image: Image,
-    options: FormatListOptions,
-    strings: ListStrings,
-    width: usize,
-    count: usize,
-    out: &mut [u8],
-) -> usize
-    requires options { (0 < length strings.between2.now → 0 < options.groups_per_group2) × (width ≡ base_bits options.base) × (0 < options.digits_per_group) × (options.digits_per_group ≤ 64) }
-    requires size { (count * group_bits options < 2 ^ 32) × (count ≡ ceil_div image.len (group_bits options)) × (image.len ≤ 8 * length image.bytes.now) × (image.len ≤ 16777216) }
-    requires room { length (list_text options strings.before.now strings.after.now strings.between.now strings.between2.now image.bytes.now image.len) ≤ length out.old }
-    ensures { Writes (list_text options strings.entry.before.now strings.entry.after.now strings.entry.between.now strings.entry.between2.now image.entry.bytes.now image.entry.len) out.old 0 out.new result }
-{
-    let mut next = output::put_all(out, 0, strings.before);
-    next = put_all_groups(out, next, image, options, strings, width, count);
-    output::put_all(out, next, strings.after)
+impl<'a> ByteGroups<'a> {
+    // The groups of a list, where they are whole bytes of hexadecimal or binary digits.
+    #[tactic(auto, using(crate::proofs::Alike::other_digits, crate::proofs::Alike::digits_left))]
+    fn new(list: ListGroups<'a>) -> Option<ByteGroups<'a>>
+        ensures { MatchOption result (group_bytes list.entry.options.width.bits list.entry.options.given.digits_per_group ≡ 0) (λ g. g.list ≡ list.entry) }
+    {
+        let kind = ByteDigits::with_bits(list.options.width.bits)?;
+        let digits = list.options.given.digits_per_group;
+        let each = kind.per_byte();
+        if digits % each != 0 {
+            return None;
+        }
+        let bytes = digits / each;
+        Some(ByteGroups { list, kind, bytes })
+    }
+
+    // Stores `count` groups from group `k` on with the first string between them. All but the last are
+    // whole bytes of the image.
+    fn put_alike(self, out: &mut [u8], at: usize, k: usize, count: usize) -> usize
+        requires inside { (0 < count) × ((k + (count - 1)) * (self.bytes * 8) ≤ self.list.good.image.len) }
+        requires room { at + length (alike_of self.list k (count - 1)) ≤ length out.old }
+        ensures { Writes (alike_of self.entry.list k (count - 1)) out.old at out.new result }
+    {
+        let image = self.list.good.image;
+        let options = self.list.options;
+        let more = count - 1;
+        let wide = self.bytes;
+        let between = options.strings.between;
+        let bytes = WholeBytes {
+            image,
+            first: k * wide,
+            count: more * wide,
+        };
+        let next = rows::put_rows(out, at, self.kind, bytes, wide, between, more);
+        let from = BitOffset((k + more) * (wide * 8));
+        let digits = options.given.digits_per_group;
+        digits::put_run(out, next, image, options.width, from, digits)
+    }
+
+    // Stores `count` groups of whole bytes of the image from group `k` on with the first string between
+    // them and the second behind them. Where that is not the shorter one, the first is written behind
+    // the last group too, as behind the others, and then written over.
+    fn put_closed(self, out: &mut [u8], at: usize, k: usize, count: usize) -> usize
+        requires inside { (0 < count) × ((k + count) * (self.bytes * 8) ≤ self.list.good.image.len) }
+        requires room { at + length (alike_of self.list k (count - 1) ++ self.list.options.strings.between2.now) ≤ length out.old }
+        ensures { Writes (alike_of self.entry.list k (count - 1) ++ self.entry.list.options.strings.between2.now) out.old at out.new result }
+    {
+        let strings = self.list.options.strings;
+        let between = strings.between;
+        if strings.between2.len() < between.len() {
+            let end = self.put_alike(out, at, k, count);
+            return output::put_text(out, end, strings.between2);
+        }
+        let image = self.list.good.image;
+        let wide = self.bytes;
+        let bytes = WholeBytes {
+            image,
+            first: k * wide,
+            count: count * wide,
+        };
+        let next = rows::put_rows(out, at, self.kind, bytes, wide, between, count);
+        output::put_text(out, next - between.len(), strings.between2)
+    }
+
+    // Stores `count` groups with the strings between them. The loop stops before the last segment, which
+    // has no string behind it, so that a range in steps of `size` is no plainer.
+    fn put(self, out: &mut [u8], at: usize, count: usize) -> usize
+        requires inside { (0 < count) × ((count - 1) * (self.bytes * 8) ≤ self.list.good.image.len) }
+        requires room { at + length (groups_of self.list count) ≤ length out.old }
+        ensures { Writes (groups_of self.entry.list count) out.old at out.new result }
+    {
+        let size = self.list.options.segment(count);
+        let mut next = at;
+        let mut k = 0;
+        while size < count - k {
+            next = self.put_closed(out, next, k, size);
+            k += size;
+        }
+        self.put_alike(out, next, k, count - k)
+    }
 }
 
 // Digits in a base of 2, 4, 8, 16 or 32, 1 to 64 of them a group, with strings of at most 256 bytes
 // before, after and between the groups.
+#[tactic(auto, using(outcome::proofs::Outcome::exports_text, outcome::proofs::Outcome::exports_no_room), unfolding(crate::specs::List::list_outcome))]
 pub fn format_list(
     image: Image,
     options: FormatListOptions,
@@ -280,21 +258,12 @@ pub fn format_list(
 ) -> Export
     ensures { Exports (list_outcome image.entry.bytes.now image.entry.len options strings.entry.before.now strings.entry.after.now strings.entry.between.now strings.entry.between2.now (length out.old)) result out.old out.new }
 {
-    if image.bad_size() {
-        return Err(Refusal::ImageSize);
-    }
-    let Some(width) = bases::base_bits(options.base) else {
-        return Err(Refusal::OptionRange);
-    };
-    if bad_list(options, strings) {
-        return Err(Refusal::OptionRange);
-    }
-    let count = bitvec::parts(image.len, options.digits_per_group * width);
-    let gaps = strings_length(options, strings, count);
-    let groups = gaps + count * options.digits_per_group;
-    let needed = strings.before.len() + groups + strings.after.len();
+    let good = image.good().ok_or(Refusal::ImageSize)?;
+    let options = ListOptions::new(options, strings).ok_or(Refusal::OptionRange)?;
+    let list = ListGroups { good, options };
+    let needed = list.length();
     if out.len() < needed {
         return Err(Refusal::NoRoom(needed));
     }
-    Ok(write_list(image, options, strings, width, count, out))
+    Ok(list.write(out))
 }

@@ -2,23 +2,22 @@
 -- Assumes nothing.
 use mathlib.Core.Path.{◌≡◌, refl, ap, ◌∙◌}
 use mathlib.Core.Bool.{Bool, true, false, cond}
-use mathlib.Core.List.{List}
-use Prim.Native.Nat.{ℕ, zero, suc, ◌+◌, ◌-◌, ◌*◌, ◌/◌, ◌%◌, ◌≤◌, ◌<◌, min}
+use mathlib.Core.List.{List, ◌++◌}
+use Prim.Native.Nat.{ℕ, zero, suc, ◌+◌, ◌-◌, ◌*◌, ◌/◌, ◌%◌, ◌^◌, ◌≤◌, ◌<◌, min}
 use native.Mathlib.Omega.{arith}
 use native.Mathlib.Numerals.{add-one}
-use native.Mathlib.Nat.{zero-mul, suc-mul, add-mul}
+use native.Mathlib.Nat.{zero-mul, suc-mul, add-mul, mul-le-mul, div-le_self, div-mul-le_self, div-add-mod', mod-lt}
 use mir.Val.{bool_byte}
 use lib.Dec.{eqb}
 use lib.ListN.{length, length-append}
-use Rattle.bitvec.specs.Size.{ceil_div}
 use Rattle.bitvec.proofs.Size.{ceil_whole, ceil_short}
 use Rattle.output.specs.Ascii.{ascii}
 use Rattle.output.specs.Pieces.{pieces, every}
-use Rattle.output.proofs.Order.{by_order}
+use Rattle.output.proofs.Pieces.{pieces_next}
 use Rattle.output.proofs.Joined.{every_length}
 use Rattle.image_parts.specs.Parts.{part_bits}
 use Rattle.digits.proofs.Run.{line_length}
-use Rattle.format_logisim.specs.Logisim.{chunk_text, chunk_at}
+use Rattle.format_logisim.specs.Logisim.{chunk_text, chunk_at, logisim_text}
 use Rattle.format_logisim.specs.Short.{breaks}
 
 -- A chunk of Logisim: a digit for each four bits, a space, and what follows it.
@@ -92,9 +91,31 @@ whole_length bytes len width (suc n) h =
     length-append (pieces (chunk_at bytes len width) n) (chunk_at bytes len width n)
     ∙ rw (whole_length bytes len width n (omega arith), all, chunk_length bytes len (n * width) width) (omega (arith, suc-mul n ((width + 3) / 4 + 1)))
 
--- Where the whole chunks are not all, there is one more.
-pub one_more : (len width : ℕ) → 0 < width → (ceil_div len width ≡ len / width → ⊥) → ceil_div len width ≡ len / width + 1
-one_more len width p differ =
-    by_order 0 (len % width)
-    (λ l. ceil_short len width p l)
-    (λ l. absurd (differ (ceil_whole len width p (omega arith))))
+-- The chunks that the image fills are not long.
+pub whole_few : (len width : ℕ) → width ≤ 4096 → len ≤ 16777216 → len / width * ((width + 3) / 4 + 1) + breaks width (len / width) < 2 ^ 39
+whole_few len width h l =
+    let few : len / width ≤ 16777216 = omega (arith, div-le_self len width) in
+    let digits : (width + 3) / 4 + 1 ≤ 1025 = omega arith in
+    omega (arith, few, breaks_most width (len / width), mul-le-mul {n₂ = 16777216} {m₂ = 1025} few digits)
+
+-- The file, where the image fills its chunks.
+pub text_whole : (bytes : List ℕ) (len width : ℕ) → 0 < width → len % width ≡ 0
+    → length (logisim_text bytes len width) ≡ 9 + (len / width * ((width + 3) / 4 + 1) + breaks width (len / width))
+unfolding logisim_text
+text_whole bytes len width p e =
+    rw (ceil_whole len width p e)
+    (length-append (ascii "v2.0 raw\n") (pieces (chunk_at bytes len width) (len / width))
+    ∙ omega (arith, whole_length bytes len width (len / width) (div-mul-le_self len width)))
+
+-- The file, where the last one is shorter.
+pub text_short : (bytes : List ℕ) (len width : ℕ) → 0 < width → (len % width ≡ 0 → ⊥)
+    → length (logisim_text bytes len width)
+    ≡ 9 + (len / width * ((width + 3) / 4 + 1) + breaks width (len / width)) + length (chunk_text bytes len (len - len % width) (len % width))
+unfolding logisim_text part_bits
+text_short bytes len width p n =
+    let start : len / width * width ≡ len - len % width = omega (arith, div-add-mod' len width) in
+    let short : min width (len - (len - len % width)) ≡ len % width = omega (arith, div-add-mod' len width, mod-lt len p) in
+    let front = pieces (chunk_at bytes len width) (len / width) in
+    let last = chunk_text bytes len (len - len % width) (len % width) in
+    rw (ceil_short len width p (omega (arith, n)), pieces_next, start, short)
+    (omega (arith, length-append (ascii "v2.0 raw\n") (front ++ last), length-append front last, whole_length bytes len width (len / width) (div-mul-le_self len width)))

@@ -4,21 +4,23 @@ use mathlib.Core.Path.{◌≡◌, sym, ap, ◌∙◌}
 use mathlib.Core.List.{List, [], ◌++◌, append_assoc}
 use Prim.Native.Nat.{ℕ, ◌+◌, ◌-◌, ◌*◌, ◌/◌, ◌%◌, ◌<◌, ◌≤◌, min}
 use native.Mathlib.Omega.{arith}
-use native.Mathlib.Nat.{mul_assoc, mul_comm, add-mul, suc-mul, le_of_mul-le-mul_right}
+use native.Mathlib.Nat.{mul_assoc, mul_comm, add-mul, suc-mul}
 use lib.ListN.{length, length-append}
 use borrow.Author.Tests.{eq-eqb, ne_eqb}
 use Rattle.bitvec.specs.Size.{ceil_div}
-use Rattle.bitvec.proofs.Size.{ceil_covers, ceil_inside}
 use Rattle.output.specs.Ascii.{ascii}
 use Rattle.output.specs.Pieces.{pieces, every}
-use Rattle.output.proofs.Pieces.{pieces_next, pieces_append, pieces_equal, pieces_most, pieces_room}
+use Rattle.output.proofs.Pieces.{pieces_next, pieces_append, pieces_equal, pieces_most}
 use Rattle.rows.specs.declared.ByteDigits.TheVariants.{Hex}
 use Rattle.rows.specs.Rows.{bytes_text, rows_text}
 use Rattle.output.proofs.Order.{stride}
 use Rattle.rows.proofs.Rows.{rows_next, rows_length}
 use Rattle.digits.specs.Run.{short_digit, hex_line}
-use Rattle.image_parts.specs.Parts.{part_bits}
+use Rattle.image_parts.specs.Parts.{part_bits, parts_from}
+use Rattle.image_parts.proofs.Parts.{parts_most, parts_split, split_length}
 use Rattle.digits.proofs.Run.{bytes_run}
+use Rattle.std.proofs.lemmas.Grind.{common_steps}
+use Rattle.format_logisim.specs.Short.{whole_chunks, by_bytes, per_line}
 use Rattle.format_logisim.specs.Logisim.{chunk_text, chunk_at, logisim_text}
 
 -- The digits of a chunk of m bytes.
@@ -104,39 +106,22 @@ line_more bytes len m n k lines p q e h l =
       ),
     )
 
--- A chunk begins within the image, and has room behind those before it.
-pub chunk_fits : (bytes : List ℕ) (len width first i chunks : ℕ) → 0 < width → chunks ≡ ceil_div len width → first ≤ i → i < chunks
-    → (i * width < len)
-    × (length (pieces (λ k. chunk_at bytes len width (first + k)) (i - first)) + length (chunk_at bytes len width i)
-    ≤ length (pieces (λ k. chunk_at bytes len width (first + k)) (chunks - first)))
-chunk_fits bytes len width first i chunks p e f l =
-    let place : first + (i - first) ≡ i = omega arith in (
-      ceil_inside len width i p (omega (arith, e)),
-      rw place at (pieces_room (λ k. chunk_at bytes len width (first + k)) (i - first) (chunks - first) (omega arith)),
+-- The file with n of its chunks before the others, and its length.
+pub text_split : (bytes : List ℕ) (len width n : ℕ) → 0 < width → n * width ≤ len
+    → (let others = parts_from (chunk_text bytes len) len width n in
+    (n ≤ ceil_div len width)
+    × (logisim_text bytes len width ≡ ascii "v2.0 raw\n" ++ (pieces (chunk_at bytes len width) n ++ others))
+    × (length (logisim_text bytes len width) ≡ 9 + (length (pieces (chunk_at bytes len width) n) + length others)))
+unfolding logisim_text
+text_split bytes len width n p h =
+    let most = parts_most len width n p h in
+    let chunks = pieces (chunk_at bytes len width) (ceil_div len width) in (
+      most,
+      ap (λ (t : List ℕ). ascii "v2.0 raw\n" ++ t) (parts_split (chunk_text bytes len) len width n most),
+      omega (arith, length-append (ascii "v2.0 raw\n") chunks, split_length (chunk_text bytes len) len width n most),
     )
 
--- The file: its first line, the first n chunks and the others.
-pub text_parts : (bytes : List ℕ) (len width n chunks : ℕ) → chunks ≡ ceil_div len width → n ≤ chunks
-    → logisim_text bytes len width ≡ ascii "v2.0 raw\n" ++ (pieces (chunk_at bytes len width) n ++ pieces (λ k. chunk_at bytes len width (n + k)) (chunks - n))
-unfolding logisim_text
-text_parts bytes len width n chunks e h =
-    let all : ceil_div len width ≡ n + (chunks - n) = omega arith in
-    ap (λ (t : List ℕ). ascii "v2.0 raw\n" ++ t)
-    (ap (pieces (chunk_at bytes len width)) all ∙ pieces_append (chunk_at bytes len width) n (chunks - n))
-
--- Chunks that are within the image are not more than all.
-pub chunks_most : (len width n : ℕ) → 0 < width → n * width ≤ len → n ≤ ceil_div len width
-chunks_most len width n p h = le_of_mul-le-mul_right {k = width} (omega (arith, ceil_covers len width p)) p
-
--- The file with n of its chunks before the others, and its length.
-pub text_split : (bytes : List ℕ) (len width n chunks : ℕ) → 0 < width → chunks ≡ ceil_div len width → n * width ≤ len
-    → (n ≤ chunks)
-    × (logisim_text bytes len width ≡ ascii "v2.0 raw\n" ++ (pieces (chunk_at bytes len width) n ++ pieces (λ k. chunk_at bytes len width (n + k)) (chunks - n)))
-    × (length (logisim_text bytes len width)
-    ≡ 9 + (length (pieces (chunk_at bytes len width) n) + length (pieces (λ k. chunk_at bytes len width (n + k)) (chunks - n))))
-text_split bytes len width n chunks p e h =
-    let front = pieces (chunk_at bytes len width) n in
-    let others = pieces (λ k. chunk_at bytes len width (n + k)) (chunks - n) in
-    let most : n ≤ chunks = omega (arith, e, chunks_most len width n p h) in
-    let text = text_parts bytes len width n chunks e most in
-    (most, text, omega (arith, ap length text, length-append (ascii "v2.0 raw\n") (front ++ others), length-append front others))
+-- Chunks that are written by bytes or by lines are within the image.
+pub whole_within : (len width : ℕ) → whole_chunks len width * width ≤ len
+unfolding whole_chunks by_bytes per_line
+whole_within len width = grind (arith, common_steps)

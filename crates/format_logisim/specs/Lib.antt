@@ -1,2 +1,3 @@
 pub mod Logisim
 pub mod Short
+pub mod Chunks

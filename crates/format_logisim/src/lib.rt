@@ -13,13 +13,35 @@ ghost use Rattle.eight_chars.specs.Word.{low_bytes};
 ghost use Rattle.hex_pair.specs.Pair.{four_bytes};
 ghost use Rattle.rows.specs.declared.ByteDigits.TheVariants.{Hex};
 ghost use Rattle.rows.specs.Rows.{rows_text};
-ghost use Rattle.format_logisim.specs.Logisim.{chunk_text, chunk_at, logisim_text, logisim_outcome};
+ghost use Rattle.format_logisim.specs.Logisim.{chunk_text, chunk_at, logisim_outcome};
 ghost use Rattle.format_logisim.specs.Short.{breaks, digit_of, spaced_digits, broken_digits, byte_chunks, whole_chunks};
+ghost use Rattle.format_logisim.specs.Chunks.{chunk_of, chunks_of, text_of};
 
-use bitvec::{BitOffset, Image};
+use bitvec::{BitOffset, GoodImage, Image, WholeBytes};
+use image_parts::{ImageParts, PutPart};
 use numbers::Letters;
 use outcome::{Export, Refusal};
 use rows::ByteDigits;
+
+// The chunks of an image.
+#[derive(Clone, Copy)]
+struct Chunks<'a> {
+    parts: ImageParts<'a>,
+}
+
+// An image whose chunks of W bits each are written byte by byte: some of them make a byte.
+#[derive(Clone, Copy)]
+struct ShortChunks<'a, const W: usize> {
+    good: GoodImage<'a>,
+    ghost short: { (W ≤ 4) × (W * (8 / W) ≡ 8) },
+}
+
+// What is written of a text: how many chunks, and the place behind them.
+#[derive(Clone, Copy)]
+struct Written {
+    chunks: usize,
+    next: usize,
+}
 
 // Whether a newline follows the chunk that ends at a bit.
 fn ends_line(end: usize) -> bool
@@ -52,99 +74,106 @@ fn breaks(width: usize, count: usize) -> usize
     total
 }
 
-// The length of the first `count` chunks, all of them whole. Where newlines follow is the same for
-// each 128 chunks.
-fn whole_length(width: usize, count: usize) -> usize
-    requires { (width ≤ 4096) × (count ≤ 16777216) }
-    ensures { result ≡ count * ((width + 3) / 4 + 1) + breaks width count }
-{
-    let digits = bitvec::parts(width, 4);
-    let lines = count / 128 * breaks(width, 128);
-    count * (digits + 1) + (lines + breaks(width, count % 128))
-}
+// A chunk is a part of the image, a space, and perhaps a newline.
+impl<'a> PutPart for Chunks<'a> {
+    ghost text = { chunk_of };
 
-// The length of the first `chunks` chunks, whatever the image.
-fn chunks_length(bits: usize, width: usize, chunks: usize) -> usize
-    requires { (0 < width) × (width ≤ 4096) × (bits ≤ 16777216) × (chunks ≡ ceil_div bits width) }
-    ensures { ((bytes : List ℕ) → length (pieces (chunk_at bytes bits width) chunks) ≡ result) × (result < 2 ^ 40) }
-{
-    let full = bits / width;
-    let whole = whole_length(width, full);
-    if chunks == full {
-        return whole;
+    fn put_part(&self, out: &mut [u8], at: usize, from: BitOffset, count: usize) -> usize {
+        let end = from.0 + count;
+        let mut next = hex_line::put_hex_line(out, at, self.parts.good.image, from, count);
+        next = output::put(out, next, b' ');
+        output::put_every(out, next, 16, end / 8, b'\n')
     }
-    whole + chunk_length(full * width, bits - full * width)
 }
 
-// Stores a chunk of `count` bits from `from` on.
-fn put_chunk(out: &mut [u8], at: usize, image: Image, from: BitOffset, count: usize) -> usize
-    requires { (from.0 + count < 2 ^ 64) × (at + length (chunk_text image.bytes.now image.len from.0 count) ≤ length out.old) }
-    ensures { Writes (chunk_text image.entry.bytes.now image.entry.len from.0 count) out.old at out.new result }
-{
-    let end = from.0 + count;
-    let mut next = hex_line::put_hex_line(out, at, image, from, count);
-    next = output::put(out, next, b' ');
-    output::put_every(out, next, 16, end / 8, b'\n')
-}
-
-// Stores the chunks from chunk `first` on, of `chunks` chunks.
-fn put_chunks(
-    out: &mut [u8],
-    at: usize,
-    image: Image,
-    width: usize,
-    first: usize,
-    chunks: usize,
-) -> usize
-    requires size { (0 < width) × (width ≤ 4096) × (image.len ≤ 16777216) × (chunks ≡ ceil_div image.len width) × (first ≤ chunks) }
-    requires room { at + length (pieces (λ k. chunk_at image.bytes.now image.len width (first + k)) (chunks - first)) ≤ length out.old }
-    ensures { Writes (pieces (λ k. chunk_at image.entry.bytes.now image.entry.len width (first + k)) (chunks - first)) out.old at out.new result }
-{
-    let mut next = at;
-    for i in first..chunks {
-        let offset = i * width;
-        let count = width.min(image.len - offset);
-        next = put_chunk(out, next, image, BitOffset(offset), count);
+impl<'a> Chunks<'a> {
+    // The length of the chunks that the image fills. Where newlines follow is the same for each 128
+    // chunks.
+    fn whole_length(self) -> usize
+        ensures { result ≡ self.entry.parts.good.image.len / self.entry.parts.width * ((self.entry.parts.width + 3) / 4 + 1) + breaks self.entry.parts.width (self.entry.parts.good.image.len / self.entry.parts.width) }
+    {
+        let width = self.parts.width;
+        let count = self.parts.good.image.len / width;
+        let digits = bitvec::parts(width, 4);
+        let lines = count / 128 * breaks(width, 128);
+        count * (digits + 1) + (lines + breaks(width, count % 128))
     }
-    next
-}
 
-// Stores 16 whole bytes of the image from byte `first` on: `count` chunks of `size` bytes each, and a
-// space behind each.
-fn put_sixteen(
-    out: &mut [u8],
-    at: usize,
-    image: Image,
-    first: usize,
-    size: usize,
-    count: usize,
-) -> usize
-    requires inside { (count * size ≡ 16) × ((first + 16) * 8 ≤ image.len) × (first + 16 ≤ length image.bytes.now) }
-    requires room { at + count * (size * 2 + 1) ≤ length out.old }
-    ensures { Writes (rows_text Hex image.entry.bytes.now image.entry.len first size (ascii " ") count) out.old at out.new result }
-{
-    if size == 1 {
-        return rows::put_by_twos(out, at, image, first, b' ', 8);
+    // The length of the file.
+    fn length(self) -> usize
+        ensures { result ≡ length (text_of self.entry) }
+    {
+        let len = self.parts.good.image.len;
+        let rest = len % self.parts.width;
+        let whole = 9 + self.whole_length();
+        if rest == 0 {
+            return whole;
+        }
+        whole + chunk_length(len - rest, rest)
     }
-    rows::put_rows(out, at, ByteDigits::Hex, image, first, size, b" ", count)
+
+    // Stores the chunks that go by bytes, or by lines of 16 bytes, where they are of whole bytes. Each
+    // width is a constant, so that no loop tests it. Chunks longer than 32 bits are as fast one by one.
+    #[tactic(auto, using(output::proofs::Pieces::pieces_none, output::proofs::Writes::writes_nothing), unfolding(crate::specs::Short::by_bytes, crate::specs::Short::per_line, crate::specs::Short::whole_chunks))]
+    fn put_whole(self, out: &mut [u8], at: usize) -> Written
+        requires { at + length (chunks_of self (whole_chunks self.parts.good.image.len self.parts.width)) ≤ length out.old }
+        ensures count { result.chunks ≡ whole_chunks self.entry.parts.good.image.len self.entry.parts.width }
+        ensures text { Writes (chunks_of self.entry result.chunks) out.old at out.new result.next }
+    {
+        let good = self.parts.good;
+        let bytes = good.image.len / 8;
+        let lines = good.image.len / 128;
+        let (chunks, next) = match self.parts.width {
+            1 => (bytes * 8, ShortChunks::<1> { good }.put(out, at)),
+            2 => (bytes * 4, ShortChunks::<2> { good }.put(out, at)),
+            4 => (bytes * 2, ShortChunks::<4> { good }.put(out, at)),
+            8 => (lines * 16, put_lines::<1>(out, at, good, lines)),
+            16 => (lines * 8, put_lines::<2>(out, at, good, lines)),
+            32 => (lines * 4, put_lines::<4>(out, at, good, lines)),
+            _ => (0, at),
+        };
+        Written { chunks, next }
+    }
+
+    // Stores the file.
+    fn write(self, out: &mut [u8]) -> usize
+        requires { length (text_of self) ≤ length out.old }
+        ensures { Writes (text_of self.entry) out.old 0 out.new result }
+    {
+        let next = output::put_all(out, 0, b"v2.0 raw\n");
+        let whole = self.put_whole(out, next);
+        image_parts::put_parts(out, whole.next, self.parts, whole.chunks, &self)
+    }
 }
 
-// Stores `lines` lines of 16 whole bytes of the image: `count` chunks of `size` bytes each.
-fn put_lines(
-    out: &mut [u8],
-    at: usize,
-    image: Image,
-    size: usize,
-    count: usize,
-    lines: usize,
-) -> usize
-    requires inside { (0 < size) × (0 < count) × (size * count ≡ 16) × (lines * 128 ≤ image.len) × (image.len ≤ 8 * length image.bytes.now) }
-    requires room { at + length (pieces (chunk_at image.bytes.now image.len (size * 8)) (lines * count)) ≤ length out.old }
-    ensures { Writes (pieces (chunk_at image.entry.bytes.now image.entry.len (size * 8)) (lines * count)) out.old at out.new result }
+// Stores 16 whole bytes: chunks of S bytes each, and a space behind each. Single bytes go by two, since
+// lines are so short that vector code does not pay.
+fn put_sixteen<const S: usize>(out: &mut [u8], at: usize, bytes: WholeBytes) -> usize
+    requires inside { (bytes.count ≡ 16) × (S * (16 / S) ≡ 16) }
+    requires room { at + 16 / S * (S * 2 + 1) ≤ length out.old }
+    ensures { Writes (rows_text Hex bytes.entry.image.bytes.now bytes.entry.image.len bytes.entry.first S (ascii " ") (16 / S)) out.old at out.new result }
+{
+    if S == 1 {
+        return rows::put_by_twos(out, at, bytes, b' ');
+    }
+    rows::put_rows(out, at, ByteDigits::Hex, bytes, S, b" ", 16 / S)
+}
+
+// Stores `lines` lines of 16 whole bytes of the image, in chunks of S bytes each. The bytes of a line
+// are named by its number, since they are no slice but a part of the image.
+fn put_lines<const S: usize>(out: &mut [u8], at: usize, good: GoodImage, lines: usize) -> usize
+    requires inside { (0 < S) × (0 < 16 / S) × (S * (16 / S) ≡ 16) × (lines * 128 ≤ good.image.len) }
+    requires room { at + length (pieces (chunk_at good.image.bytes.now good.image.len (S * 8)) (lines * (16 / S))) ≤ length out.old }
+    ensures { Writes (pieces (chunk_at good.entry.image.bytes.now good.entry.image.len (S * 8)) (lines * (16 / S))) out.old at out.new result }
 {
     let mut next = at;
     for k in 0..lines {
-        next = put_sixteen(out, next, image, k * 16, size, count);
+        let bytes = WholeBytes {
+            image: good.image,
+            first: k * 16,
+            count: 16,
+        };
+        next = put_sixteen::<S>(out, next, bytes);
         next = output::put(out, next, b'\n');
     }
     next
@@ -181,167 +210,107 @@ fn spaced_fours(byte: u8) -> u64
     digits + 0x2030_2030 + letters * 39
 }
 
-// Stores byte `j` in digits of `width` bits with a space behind each. For digits of one bit the byte is
-// read for each word, which keeps the stores of the two apart, and the compiler joins those of each.
-fn put_spaced(out: &mut [u8], at: usize, image: Image, width: usize, j: usize) -> usize
-    requires short { (width ≤ 4) × (width * (8 / width) ≡ 8) }
-    requires inside { (j * 8 + 8 ≤ image.len) × (j < length image.bytes.now) }
-    requires room { at + 8 / width * 2 ≤ length out.old }
-    ensures { Writes (spaced_digits width (8 / width) (byte_at image.entry.bytes.now image.entry.len j)) out.old at out.new result }
-{
-    if width == 1 {
-        let next = eight_chars::put_word(out, at, spaced_ones(image.bytes[j] / 16));
-        return eight_chars::put_word(out, next, spaced_ones(image.bytes[j] % 16));
+impl<'a, const W: usize> ShortChunks<'a, W> {
+    // Stores byte `j` in digits with a space behind each. For digits of one bit the byte is read for
+    // each word, which keeps the stores of the two apart, and the compiler joins those of each.
+    fn put_spaced(self, out: &mut [u8], at: usize, j: usize) -> usize
+        requires { (j * 8 + 8 ≤ self.good.image.len) × (at + 8 / W * 2 ≤ length out.old) }
+        ensures { Writes (spaced_digits W (8 / W) (byte_at self.entry.good.image.bytes.now self.entry.good.image.len j)) out.old at out.new result }
+    {
+        let bytes = self.good.image.bytes;
+        if W == 1 {
+            let next = eight_chars::put_word(out, at, spaced_ones(bytes[j] / 16));
+            return eight_chars::put_word(out, next, spaced_ones(bytes[j] % 16));
+        }
+        if W == 2 {
+            return eight_chars::put_word(out, at, spaced_twos(bytes[j]));
+        }
+        hex_pair::put_four(out, at, spaced_fours(bytes[j]))
     }
-    if width == 2 {
-        return eight_chars::put_word(out, at, spaced_twos(image.bytes[j]));
+
+    // Stores `count` bytes from byte `first` on in such digits. The loop tests no place, so that the
+    // compiler makes vector code of it; it goes by places, since `put_spaced` reads a byte twice.
+    fn put_row(self, out: &mut [u8], at: usize, first: usize, count: usize) -> usize
+        requires { ((first + count) * 8 ≤ self.good.image.len) × (at + count * (8 / W * 2) ≤ length out.old) }
+        ensures { Writes (pieces (λ k. spaced_digits W (8 / W) (byte_at self.entry.good.image.bytes.now self.entry.good.image.len (first + k))) count) out.old at out.new result }
+    {
+        let mut next = at;
+        for k in 0..count {
+            next = self.put_spaced(out, next, first + k);
+        }
+        next
     }
-    hex_pair::put_four(out, at, spaced_fours(image.bytes[j]))
-}
 
-// Stores `count` bytes from byte `first` on in such digits. The loop tests no place, so that the compiler
-// makes vector code of it.
-fn put_row(
-    out: &mut [u8],
-    at: usize,
-    image: Image,
-    width: usize,
-    first: usize,
-    count: usize,
-) -> usize
-    requires short { (width ≤ 4) × (width * (8 / width) ≡ 8) }
-    requires inside { ((first + count) * 8 ≤ image.len) × (first + count ≤ length image.bytes.now) }
-    requires room { at + count * (8 / width * 2) ≤ length out.old }
-    ensures { Writes (pieces (λ k. spaced_digits width (8 / width) (byte_at image.entry.bytes.now image.entry.len (first + k))) count) out.old at out.new result }
-{
-    let mut next = at;
-    for k in 0..count {
-        next = put_spaced(out, next, image, width, first + k);
+    // Digit `k` of a byte.
+    fn digit_of(self, byte: u8, k: usize) -> u8
+        requires { k < 8 / W }
+        ensures { result ≡ digit_of W (8 / W) byte k }
+    {
+        let behind = (8 / W - 1 - k) * W;
+        let base: u8 = 1 << W as u8;
+        numbers::digit_char(Letters::Lower, (byte >> behind as u8) % base)
     }
-    next
-}
 
-// Digit `k` of a byte in digits of `width` bits.
-fn digit_of(byte: u8, width: usize, k: usize) -> u8
-    requires { (width ≤ 4) × (width * (8 / width) ≡ 8) × (k < 8 / width) }
-    ensures { result ≡ digit_of width (8 / width) byte k }
-{
-    let behind = (8 / width - 1 - k) * width;
-    let base: u8 = 1 << width as u8;
-    numbers::digit_char(Letters::Lower, (byte >> behind as u8) % base)
-}
-
-// Stores a byte that begins a line in digits of `width` bits, with a newline behind each but the last.
-fn put_broken(out: &mut [u8], at: usize, byte: u8, width: usize) -> usize
-    requires { (width ≤ 4) × (width * (8 / width) ≡ 8) × (at + ((8 / width - 1) * 3 + 2) ≤ length out.old) }
-    ensures { Writes (broken_digits width (8 / width) byte) out.old at out.new result }
-{
-    let last = 8 / width - 1;
-    let mut next = at;
-    for k in 0..last {
-        next = output::put(out, next, digit_of(byte, width, k));
-        next = output::put(out, next, b' ');
-        next = output::put(out, next, b'\n');
+    // Stores a byte that begins a line, with a newline behind each of its digits but the last.
+    fn put_broken(self, out: &mut [u8], at: usize, byte: u8) -> usize
+        requires { at + ((8 / W - 1) * 3 + 2) ≤ length out.old }
+        ensures { Writes (broken_digits W (8 / W) byte) out.old at out.new result }
+    {
+        let last = 8 / W - 1;
+        let mut next = at;
+        // By numbers, since a digit is computed from its own.
+        for k in 0..last {
+            next = output::put(out, next, self.digit_of(byte, k));
+            next = output::put(out, next, b' ');
+            next = output::put(out, next, b'\n');
+        }
+        next = output::put(out, next, self.digit_of(byte, last));
+        output::put(out, next, b' ')
     }
-    next = output::put(out, next, digit_of(byte, width, last));
-    output::put(out, next, b' ')
-}
 
-// Stores `count` bytes of a line, from its first byte `j` on, in chunks of `width` bits.
-fn put_line(out: &mut [u8], at: usize, image: Image, width: usize, j: usize, count: usize) -> usize
-    requires short { (width ≤ 4) × (width * (8 / width) ≡ 8) }
-    requires inside { (j % 16 ≡ 0) × (0 < count) × (count ≤ 16) × ((j + count) * 8 ≤ image.len) × (j + count ≤ length image.bytes.now) }
-    requires room { at + length (pieces (λ i. byte_chunks image.bytes.now image.len width (8 / width) (j + i)) count) ≤ length out.old }
-    ensures { Writes (pieces (λ i. byte_chunks image.entry.bytes.now image.entry.len width (8 / width) (j + i)) count) out.old at out.new result }
-{
-    let mut next = put_broken(out, at, image.bytes[j], width);
-    next = put_row(out, next, image, width, j + 1, count - 1);
-    output::put_every(out, next, 16, count, b'\n')
-}
-
-// Stores the first `count` bytes in chunks of `width` bits.
-fn put_bytes(out: &mut [u8], at: usize, image: Image, width: usize, count: usize) -> usize
-    requires short { (width ≤ 4) × (width * (8 / width) ≡ 8) }
-    requires inside { (count * 8 ≤ image.len) × (image.len ≤ 8 * length image.bytes.now) }
-    requires room { at + length (pieces (chunk_at image.bytes.now image.len width) (count * (8 / width))) ≤ length out.old }
-    ensures { Writes (pieces (chunk_at image.entry.bytes.now image.entry.len width) (count * (8 / width))) out.old at out.new result }
-{
-    let mut next = at;
-    for k in 0..count.div_ceil(16) {
-        let j = k * 16;
-        let size = (count - j).min(16);
-        next = put_line(out, next, image, width, j, size);
+    // Stores `count` bytes of a line, from its first byte `j` on.
+    fn put_line(self, out: &mut [u8], at: usize, j: usize, count: usize) -> usize
+        requires inside { (j % 16 ≡ 0) × (0 < count) × (count ≤ 16) × ((j + count) * 8 ≤ self.good.image.len) }
+        requires room { at + length (pieces (λ i. byte_chunks self.good.image.bytes.now self.good.image.len W (8 / W) (j + i)) count) ≤ length out.old }
+        ensures { Writes (pieces (λ i. byte_chunks self.entry.good.image.bytes.now self.entry.good.image.len W (8 / W) (j + i)) count) out.old at out.new result }
+    {
+        let mut next = self.put_broken(out, at, self.good.image.bytes[j]);
+        next = self.put_row(out, next, j + 1, count - 1);
+        output::put_every(out, next, 16, count, b'\n')
     }
-    next
-}
 
-// How many chunks are written by bytes or by lines: those of lines of 16 bytes, where they are of
-// whole bytes. Chunks longer than 32 bits are as fast one by one.
-#[tactic(auto, unfolding(crate::specs::Short::by_bytes, crate::specs::Short::per_line, crate::specs::Short::whole_chunks))]
-fn whole_chunks(bits: usize, width: usize) -> usize
-    requires { bits ≤ 16777216 }
-    ensures { (result ≡ whole_chunks bits width) × (result * width ≤ bits) }
-{
-    let bytes = bits / 8;
-    let lines = bits / 128;
-    match width {
-        1 => bytes * 8,
-        2 => bytes * 4,
-        4 => bytes * 2,
-        8 => lines * 16,
-        16 => lines * 8,
-        32 => lines * 4,
-        _ => 0,
+    // Stores the chunks of all whole bytes, line by line.
+    fn put(self, out: &mut [u8], at: usize) -> usize
+        requires { at + length (pieces (chunk_at self.good.image.bytes.now self.good.image.len W) (self.good.image.len / 8 * (8 / W))) ≤ length out.old }
+        ensures { Writes (pieces (chunk_at self.entry.good.image.bytes.now self.entry.good.image.len W) (self.entry.good.image.len / 8 * (8 / W))) out.old at out.new result }
+    {
+        let count = self.good.image.len / 8;
+        let mut next = at;
+        for j in (0..count).step_by(16) {
+            let size = (count - j).min(16);
+            next = self.put_line(out, next, j, size);
+        }
+        next
     }
-}
-
-// Stores these chunks. Each width is a number in its call, so that no loop tests it.
-#[tactic(auto, unfolding(crate::specs::Short::by_bytes, crate::specs::Short::per_line, crate::specs::Short::whole_chunks))]
-fn put_whole(out: &mut [u8], at: usize, image: Image, width: usize) -> usize
-    requires inside { image.len ≤ 8 * length image.bytes.now }
-    requires room { at + length (pieces (chunk_at image.bytes.now image.len width) (whole_chunks image.len width)) ≤ length out.old }
-    ensures { Writes (pieces (chunk_at image.entry.bytes.now image.entry.len width) (whole_chunks image.entry.len width)) out.old at out.new result }
-{
-    let bytes = image.len / 8;
-    let lines = image.len / 128;
-    match width {
-        1 => put_bytes(out, at, image, 1, bytes),
-        2 => put_bytes(out, at, image, 2, bytes),
-        4 => put_bytes(out, at, image, 4, bytes),
-        8 => put_lines(out, at, image, 1, 16, lines),
-        16 => put_lines(out, at, image, 2, 8, lines),
-        32 => put_lines(out, at, image, 4, 4, lines),
-        _ => at,
-    }
-}
-
-// Stores the file, of `chunks` chunks: those that go by bytes or by lines, and then the others.
-fn write_logisim(image: Image, width: usize, chunks: usize, out: &mut [u8]) -> usize
-    requires size { (0 < width) × (width ≤ 4096) × (image.len ≤ 16777216) × (image.len ≤ 8 * length image.bytes.now) × (chunks ≡ ceil_div image.len width) }
-    requires room { length (logisim_text image.bytes.now image.len width) ≤ length out.old }
-    ensures { Writes (logisim_text image.entry.bytes.now image.entry.len width) out.old 0 out.new result }
-{
-    let whole = whole_chunks(image.len, width);
-    let mut next = output::put_all(out, 0, b"v2.0 raw\n");
-    next = put_whole(out, next, image, width);
-    put_chunks(out, next, image, width, whole, chunks)
 }
 
 // Chunks of 1 to 4,096 bits in hexadecimal.
-#[tactic(auto, using(bitvec::proofs::Size::size_good, outcome::proofs::Outcome::inside), unfolding(crate::specs::Logisim::logisim_outcome))]
+#[tactic(auto, using(outcome::proofs::Outcome::inside, outcome::proofs::Outcome::exports_text, outcome::proofs::Outcome::exports_no_room), unfolding(crate::specs::Logisim::logisim_outcome))]
 pub fn format_logisim(image: Image, bits_per_chunk: usize, out: &mut [u8]) -> Export
     ensures { Exports (logisim_outcome image.entry.bytes.now image.entry.len bits_per_chunk (length out.old)) result out.old out.new }
 {
-    if image.bad_size() {
-        return Err(Refusal::ImageSize);
-    }
+    let good = image.good().ok_or(Refusal::ImageSize)?;
     if outcome::outside(1, 4096, bits_per_chunk) {
         return Err(Refusal::OptionRange);
     }
-    let chunks = bitvec::parts(image.len, bits_per_chunk);
-    let needed = 9 + chunks_length(image.len, bits_per_chunk, chunks);
+    let parts = ImageParts {
+        good,
+        width: bits_per_chunk,
+    };
+    let chunks = Chunks { parts };
+    let needed = chunks.length();
     if out.len() < needed {
         return Err(Refusal::NoRoom(needed));
     }
-    Ok(write_logisim(image, bits_per_chunk, chunks, out))
+    Ok(chunks.write(out))
 }

@@ -4,16 +4,15 @@ ghost use Rattle.outcome.specs.Outcome.{Exports};
 ghost use Rattle.format_plain.specs.Str.{str_outcome};
 
 use bitvec::{BitOffset, Image};
+use numbers::DigitWidth;
 use outcome::{Export, Refusal};
 
 // Digits of 1 to 5 bits, the last one filled with zeros.
-#[tactic(auto, using(bitvec::proofs::Size::size_good, bitvec::proofs::Size::ceil_reach, outcome::proofs::Outcome::inside, outcome::proofs::Outcome::exports_text, outcome::proofs::Outcome::exports_no_room, crate::proofs::Lengths::str_length), unfolding(crate::specs::Str::str_outcome, crate::specs::Str::str_text))]
+#[tactic(auto, using(bitvec::proofs::Size::ceil_reach, outcome::proofs::Outcome::inside, outcome::proofs::Outcome::exports_text, outcome::proofs::Outcome::exports_no_room, crate::proofs::Lengths::str_length), unfolding(crate::specs::Str::str_outcome, crate::specs::Str::str_text))]
 pub fn format_str(image: Image, bits_per_digit: usize, out: &mut [u8]) -> Export
     ensures { Exports (str_outcome image.entry.bytes.now image.entry.len bits_per_digit (length out.old)) result out.old out.new }
 {
-    if image.bad_size() {
-        return Err(Refusal::ImageSize);
-    }
+    let image = image.good().ok_or(Refusal::ImageSize)?.image;
     if outcome::outside(1, 5, bits_per_digit) {
         return Err(Refusal::OptionRange);
     }
@@ -21,10 +20,13 @@ pub fn format_str(image: Image, bits_per_digit: usize, out: &mut [u8]) -> Export
     if out.len() < count {
         return Err(Refusal::NoRoom(count));
     }
-    Ok(digits::put_run(out, 0, image, bits_per_digit, BitOffset(0), count))
+    let width = DigitWidth {
+        bits: bits_per_digit,
+    };
+    Ok(digits::put_run(out, 0, image, width, BitOffset(0), count))
 }
 
-// One digit for each bit.
+// One digit for each bit. This and the next are exporters of document 01 by these names.
 pub fn format_binstr(image: Image, out: &mut [u8]) -> Export
     ensures { Exports (str_outcome image.entry.bytes.now image.entry.len 1 (length out.old)) result out.old out.new }
 {

@@ -1,5 +1,6 @@
 // The plain exporters (document 01, module 2): the binary file and the digits of an image. Each
-// answers a text and its length, or refusal 1, 2 or 8.
+// answers a text and its length, or refusal 1 or 8; digits also refusal 2, where a digit has no width
+// from 1 to 5 bits.
 #![tactic(auto)]
 
 mod binary;

@@ -1,20 +1,20 @@
 -- Lines of whole bytes are rows of bytes.
 -- Assumes nothing.
-use mathlib.Core.Path.{◌≡◌, sym, ap, ◌∙◌}
+use mathlib.Core.Path.{◌≡◌, sym, ap}
 use mathlib.Core.List.{List, ◌++◌}
 use Prim.Native.Nat.{ℕ, ◌+◌, ◌-◌, ◌*◌, ◌/◌, ◌%◌, ◌<◌, ◌≤◌, min}
 use native.Mathlib.Omega.{arith}
-use native.Mathlib.Nat.{mul_assoc, zero-add, le_of_mul-le-mul_right, div-mul-le_self}
-use lib.ListN.{length, length-append}
+use native.Mathlib.Nat.{mul_assoc, zero-add, div-mul-le_self}
+use lib.ListN.{length}
 use Rattle.bitvec.specs.Size.{ceil_div}
-use Rattle.bitvec.proofs.Size.{ceil_covers}
 use Rattle.output.specs.Ascii.{ascii}
 use Rattle.output.specs.Pieces.{pieces}
-use Rattle.output.proofs.Pieces.{pieces_none, pieces_append, pieces_equal}
+use Rattle.output.proofs.Pieces.{pieces_equal}
 use Rattle.rows.specs.Rows.{bytes_text, rows_text}
 use Rattle.output.proofs.Order.{stride}
 use Rattle.digits.specs.Run.{short_digit, hex_line}
-use Rattle.image_parts.specs.Parts.{part_bits}
+use Rattle.image_parts.specs.Parts.{part_bits, parts_from}
+use Rattle.image_parts.proofs.Parts.{parts_most, parts_split, split_length, parts_all}
 use Rattle.digits.proofs.Run.{bytes_run}
 use Rattle.rows.specs.declared.ByteDigits.{ByteDigits}
 use Rattle.rows.specs.declared.ByteDigits.TheVariants.{Binary, Hex}
@@ -48,32 +48,20 @@ unfolding rows_text
 whole_rows kind bytes len width n e h =
     pieces_equal _ _ n (λ k l. sym (whole_line kind bytes len width k e (omega (arith, stride k n width l))))
 
--- The file: the first n lines and the others.
-pub lines_parts : (kind : ByteDigits) (bytes : List ℕ) (len width n : ℕ) → n ≤ ceil_div len width
-    → readmem_text kind bytes len width ≡ pieces (line_at kind bytes len width) n ++ pieces (λ k. line_at kind bytes len width (n + k)) (ceil_div len width - n)
-unfolding readmem_text
-lines_parts kind bytes len width n h =
-    let all : n + (ceil_div len width - n) ≡ ceil_div len width = omega arith in
-    ap (pieces (line_at kind bytes len width)) (sym all) ∙ pieces_append (line_at kind bytes len width) n (ceil_div len width - n)
+-- The file: the lines that the image fills, and the others.
+pub filled_lines : (kind : ByteDigits) (bytes : List ℕ) (len width : ℕ) → 0 < width
+    → (let others = parts_from (λ i m. line_text kind bytes len i m ++ ascii "\n") len width (len / width) in
+    (len / width ≤ ceil_div len width)
+    × (readmem_text kind bytes len width ≡ pieces (line_at kind bytes len width) (len / width) ++ others)
+    × (length (readmem_text kind bytes len width) ≡ length (pieces (line_at kind bytes len width) (len / width)) + length others))
+unfolding readmem_text line_at
+filled_lines kind bytes len width p =
+    let most = parts_most len width (len / width) p (div-mul-le_self len width) in
+    let line : ℕ → ℕ → List ℕ = λ i m. line_text kind bytes len i m ++ ascii "\n" in
+    (most, parts_split line len width (len / width) most, split_length line len width (len / width) most)
 
 -- All lines, counted from the first.
-pub lines_all : (kind : ByteDigits) (bytes : List ℕ) (len width : ℕ)
-    → readmem_text kind bytes len width ≡ pieces (λ k. line_at kind bytes len width (0 + k)) (ceil_div len width - 0)
-lines_all kind bytes len width =
-    rw (pieces_none (line_at kind bytes len width)) at (lines_parts kind bytes len width 0 (omega arith))
-
--- Lines that are within the image are not more than all.
-pub lines_most : (len width n : ℕ) → 0 < width → n * width ≤ len → n ≤ ceil_div len width
-lines_most len width n p h = le_of_mul-le-mul_right {k = width} (omega (arith, ceil_covers len width p)) p
-
--- The file: the lines that the image fills, and the others.
-pub filled_parts : (kind : ByteDigits) (bytes : List ℕ) (len width lines : ℕ) → 0 < width → lines ≡ ceil_div len width
-    → readmem_text kind bytes len width ≡ pieces (line_at kind bytes len width) (len / width) ++ pieces (λ k. line_at kind bytes len width (len / width + k)) (lines - len / width)
-filled_parts kind bytes len width lines p e =
-    rw e (lines_parts kind bytes len width (len / width) (lines_most len width (len / width) p (div-mul-le_self len width)))
-
-pub filled_length : (kind : ByteDigits) (bytes : List ℕ) (len width lines : ℕ) → 0 < width → lines ≡ ceil_div len width
-    → length (readmem_text kind bytes len width) ≡ length (pieces (line_at kind bytes len width) (len / width)) + length (pieces (λ k. line_at kind bytes len width (len / width + k)) (lines - len / width))
-filled_length kind bytes len width lines p e =
-    ap length (filled_parts kind bytes len width lines p e)
-    ∙ length-append (pieces (line_at kind bytes len width) (len / width)) (pieces (λ k. line_at kind bytes len width (len / width + k)) (lines - len / width))
+pub all_lines : (kind : ByteDigits) (bytes : List ℕ) (len width : ℕ)
+    → readmem_text kind bytes len width ≡ parts_from (λ i m. line_text kind bytes len i m ++ ascii "\n") len width 0
+unfolding readmem_text line_at
+all_lines kind bytes len width = parts_all (λ i m. line_text kind bytes len i m ++ ascii "\n") len width

@@ -2,189 +2,162 @@
 // `format_readmemh`). Each answers a text and its length, or refusal 1, 2 or 8.
 #![tactic(auto)]
 
-ghost use Rattle.std.specs.Prelude.{◌≡◌, List, ℕ, ◌+◌, ◌-◌, ◌*◌, ◌%◌, ◌≤◌, ◌<◌, ◌^◌, length, IfSome};
-ghost use Rattle.bitvec.specs.Size.{ceil_div};
-ghost use Rattle.output.specs.Pieces.{pieces};
+ghost use Rattle.std.specs.Prelude.{◌≡◌, List, ℕ, ◌+◌, ◌%◌, ◌≤◌, ◌<◌, ◌^◌, length, IfSome};
 ghost use Rattle.output.specs.Writes.{Writes};
 ghost use Rattle.outcome.specs.Outcome.{Exports};
 ghost use Rattle.rows.specs.declared.ByteDigits.TheVariants.{Hex};
-ghost use Rattle.format_readmem.specs.Readmem.{line_text, line_at, readmem_text, readmem_outcome, readmemb_outcome, readmemh_outcome};
-ghost use Rattle.format_readmem.specs.Runs.{Runs};
+ghost use Rattle.format_readmem.specs.Readmem.{line_text, readmem_text, readmem_outcome, readmemb_outcome, readmemh_outcome};
+ghost use Rattle.format_readmem.specs.Runs.{line_of, lines_of, Runs};
 
-use bitvec::{BitOffset, Image};
+use bitvec::{BitOffset, Image, WholeBytes};
+use image_parts::{ImageParts, PutPart};
+use numbers::DigitWidth;
 use outcome::{Export, Refusal};
 use rows::ByteDigits;
 
-// The length of a line of `count` bits, whatever the image.
-fn line_length(kind: ByteDigits, count: usize) -> usize
-    requires { count < 2 ^ 32 }
-    ensures { (bytes : List ℕ) (len i : ℕ) → length (line_text kind bytes len i count) ≡ result }
-{
-    match kind {
-        ByteDigits::Binary => count,
-        ByteDigits::Hex => bitvec::parts(count, 4),
-    }
-}
-
-// The length of the file.
-fn readmem_length(kind: ByteDigits, bits: usize, width: usize) -> usize
-    requires { (0 < width) × (width ≤ 4096) × (bits ≤ 16777216) }
-    ensures { (bytes : List ℕ) → length (readmem_text kind bytes bits width) ≡ result }
-{
-    let full = line_length(kind, width) + 1;
-    let last = line_length(kind, bits % width) + 1;
-    image_parts::parts_length(bits, width, full, last)
-}
-
-// Stores a line of `count` bits from `from` on.
-fn put_line(
-    out: &mut [u8],
-    at: usize,
+// The lines of a memory file: the digits that they are written in, and the parts of the image that
+// they are.
+#[derive(Clone, Copy)]
+struct Lines<'a> {
     kind: ByteDigits,
-    image: Image,
-    from: BitOffset,
-    count: usize,
-) -> usize
-    requires { (from.0 + count < 2 ^ 64) × (at + length (line_text kind image.bytes.now image.len from.0 count) ≤ length out.old) }
-    ensures { Writes (line_text kind image.entry.bytes.now image.entry.len from.0 count) out.old at out.new result }
-{
-    match kind {
-        ByteDigits::Binary => digits::put_run(out, at, image, 1, from, count),
-        ByteDigits::Hex => hex_line::put_hex_line(out, at, image, from, count),
+    parts: ImageParts<'a>,
+}
+
+// A line is a part of the image and a newline.
+impl<'a> PutPart for Lines<'a> {
+    ghost text = { line_of };
+
+    fn put_part(&self, out: &mut [u8], at: usize, from: BitOffset, count: usize) -> usize {
+        let next = self.put_digits(out, at, from, count);
+        output::put(out, next, b'\n')
     }
 }
 
-// Stores the lines from line `first` on, of `lines` lines.
-fn put_lines(
-    out: &mut [u8],
-    at: usize,
-    kind: ByteDigits,
-    image: Image,
-    width: usize,
-    first: usize,
-    lines: usize,
-) -> usize
-    requires size { (0 < width) × (width ≤ 4096) × (image.len ≤ 16777216) × (lines ≡ ceil_div image.len width) × (first ≤ lines) }
-    requires room { at + length (pieces (λ k. line_at kind image.bytes.now image.len width (first + k)) (lines - first)) ≤ length out.old }
-    ensures { Writes (pieces (λ k. line_at kind image.entry.bytes.now image.entry.len width (first + k)) (lines - first)) out.old at out.new result }
-{
-    let mut next = at;
-    for i in first..lines {
-        let offset = i * width;
-        let count = width.min(image.len - offset);
-        next = put_line(out, next, kind, image, BitOffset(offset), count);
-        next = output::put(out, next, b'\n');
+impl<'a> Lines<'a> {
+    // The length of the file.
+    #[tactic(auto, using(crate::proofs::Lengths::digit_some, crate::proofs::Lengths::digits_most, crate::proofs::Lengths::readmem_length))]
+    fn length(self) -> usize
+        ensures { result ≡ length (lines_of self.entry) }
+    {
+        let len = self.parts.good.image.len;
+        let width = self.parts.width;
+        let digit = self.kind.width().bits;
+        let full = bitvec::parts(width, digit) + 1;
+        let last = bitvec::parts(len % width, digit) + 1;
+        image_parts::parts_length(len, width, full, last)
     }
-    next
+
+    // Stores the digits of a line of `count` bits from `from` on.
+    #[tactic(auto, using(crate::proofs::Lengths::digits_parts), unfolding(bitvec::specs::Size::ceil_div, crate::specs::Readmem::line_text))]
+    fn put_digits(self, out: &mut [u8], at: usize, from: BitOffset, count: usize) -> usize
+        requires { (from.0 + count < 2 ^ 64) × (at + length (line_text self.kind self.parts.good.image.bytes.now self.parts.good.image.len from.0 count) ≤ length out.old) }
+        ensures { Writes (line_text self.entry.kind self.entry.parts.good.image.bytes.now self.entry.parts.good.image.len from.0 count) out.old at out.new result }
+    {
+        let image = self.parts.good.image;
+        match self.kind {
+            ByteDigits::Binary => digits::put_run(out, at, image, DigitWidth::BINARY, from, count),
+            ByteDigits::Hex => hex_line::put_hex_line(out, at, image, from, count),
+        }
+    }
+
+    // Stores the file where its lines are of whole bytes: those that the image fills, and then the last
+    // one.
+    fn write_rows(self, out: &mut [u8]) -> usize
+        requires bytes { self.parts.width % 8 ≡ 0 }
+        requires room { length (lines_of self) ≤ length out.old }
+        ensures { Writes (lines_of self.entry) out.old 0 out.new result }
+    {
+        let image = self.parts.good.image;
+        let whole = image.len / self.parts.width;
+        let size = self.parts.width / 8;
+        let bytes = WholeBytes {
+            image,
+            first: 0,
+            count: whole * size,
+        };
+        let next = rows::put_rows(out, 0, self.kind, bytes, size, b"\n", whole);
+        image_parts::put_parts(out, next, self.parts, whole, &self)
+    }
+
+    // Stores the file where the digits of its lines have one width: those of many lines are made at
+    // once.
+    fn write_runs(self, digit: DigitWidth, out: &mut [u8]) -> usize
+        requires runs { (0 < digit.bits) × (digit.bits ≤ 4) × Runs self.kind self.parts.width digit.bits }
+        requires room { length (lines_of self) ≤ length out.old }
+        ensures { Writes (lines_of self.entry) out.old 0 out.new result }
+    {
+        let image = self.parts.good.image;
+        let whole = image.len / self.parts.width;
+        let size = self.parts.width / digit.bits;
+        let from = BitOffset(0);
+        let next = digit_lines::put_lines(out, 0, image, digit, from, size, b'\n', whole);
+        image_parts::put_parts(out, next, self.parts, whole, &self)
+    }
+
+    // Stores the file.
+    #[tactic(auto, using(crate::proofs::Whole::all_lines))]
+    fn write(self, out: &mut [u8]) -> usize
+        requires { length (lines_of self) ≤ length out.old }
+        ensures { Writes (lines_of self.entry) out.old 0 out.new result }
+    {
+        let width = self.parts.width;
+        if width % 8 == 0 {
+            return self.write_rows(out);
+        }
+        match digit_width(self.kind, width) {
+            Some(digit) => self.write_runs(digit, out),
+            None => image_parts::put_parts(out, 0, self.parts, 0, &self),
+        }
+    }
 }
 
-// Stores the file, of `lines` lines, where these are of whole bytes: those that the image fills, and then
-// the last one.
-fn write_rows(kind: ByteDigits, image: Image, width: usize, lines: usize, out: &mut [u8]) -> usize
-    requires size { (0 < width) × (width ≤ 4096) × (image.len ≤ 16777216) × (image.len ≤ 8 * length image.bytes.now) × (lines ≡ ceil_div image.len width) }
-    requires bytes { width % 8 ≡ 0 }
-    requires room { length (readmem_text kind image.bytes.now image.len width) ≤ length out.old }
-    ensures { Writes (readmem_text kind image.entry.bytes.now image.entry.len width) out.old 0 out.new result }
-{
-    let whole = image.len / width;
-    let next = rows::put_rows(out, 0, kind, image, 0, width / 8, b"\n", whole);
-    put_lines(out, next, kind, image, width, whole, lines)
-}
-
-// How many bits a digit of a hexadecimal line has, if all have as many.
-fn hex_bits(width: usize) -> Option<usize>
+// The digits of a hexadecimal line, if all have as many bits.
+#[tactic(auto, using(crate::proofs::Narrow::runs_whole, crate::proofs::Narrow::runs_short))]
+fn hex_width(width: usize) -> Option<DigitWidth>
     requires { (0 < width) × (width ≤ 128) }
-    ensures { IfSome result (λ w. (0 < w) × (w ≤ 4) × Runs Hex width w) }
+    ensures { IfSome result (λ w. (0 < w.bits) × (w.bits ≤ 4) × Runs Hex width w.bits) }
 {
     if width % 4 == 0 {
-        return Some(4);
+        return Some(DigitWidth::HEX);
     }
-    if width < 4 { Some(width) } else { None }
+    if width < 4 {
+        return Some(DigitWidth { bits: width });
+    }
+    None
 }
 
-// How many bits a digit of a short line has, if all have as many. A long line is better written in its
-// place at once.
-fn digit_bits(kind: ByteDigits, width: usize) -> Option<usize>
+// The digits of a short line, if all have as many bits. A long line is better written in its place at
+// once.
+#[tactic(auto, using(crate::proofs::Narrow::runs_binary))]
+fn digit_width(kind: ByteDigits, width: usize) -> Option<DigitWidth>
     requires { 0 < width }
-    ensures { IfSome result (λ w. (0 < w) × (w ≤ 4) × Runs kind width w) }
+    ensures { IfSome result (λ w. (0 < w.bits) × (w.bits ≤ 4) × Runs kind width w.bits) }
 {
     if 128 < width {
         return None;
     }
     match kind {
-        ByteDigits::Binary => Some(1),
-        ByteDigits::Hex => hex_bits(width),
+        ByteDigits::Binary => Some(DigitWidth::BINARY),
+        ByteDigits::Hex => hex_width(width),
     }
-}
-
-// Stores the file, of `lines` lines, whose digits have `digit` bits each: those of many lines are made
-// at once.
-fn write_runs(
-    kind: ByteDigits,
-    image: Image,
-    width: usize,
-    digit: usize,
-    lines: usize,
-    out: &mut [u8],
-) -> usize
-    requires size { (0 < width) × (width ≤ 4096) × (image.len ≤ 16777216) × (lines ≡ ceil_div image.len width) }
-    requires runs { (0 < digit) × (digit ≤ 4) × Runs kind width digit }
-    requires room { length (readmem_text kind image.bytes.now image.len width) ≤ length out.old }
-    ensures { Writes (readmem_text kind image.entry.bytes.now image.entry.len width) out.old 0 out.new result }
-{
-    let whole = image.len / width;
-    let size = width / digit;
-    let next = digit_lines::put_lines(out, 0, image, digit, BitOffset(0), size, b'\n', whole);
-    put_lines(out, next, kind, image, width, whole, lines)
-}
-
-// Stores the file, of `lines` lines, where these are not of whole bytes.
-fn write_narrow(kind: ByteDigits, image: Image, width: usize, lines: usize, out: &mut [u8]) -> usize
-    requires size { (0 < width) × (width ≤ 4096) × (image.len ≤ 16777216) × (lines ≡ ceil_div image.len width) }
-    requires room { length (readmem_text kind image.bytes.now image.len width) ≤ length out.old }
-    ensures { Writes (readmem_text kind image.entry.bytes.now image.entry.len width) out.old 0 out.new result }
-{
-    match digit_bits(kind, width) {
-        Some(digit) => write_runs(kind, image, width, digit, lines, out),
-        None => put_lines(out, 0, kind, image, width, 0, lines),
-    }
-}
-
-// Stores the file, of `lines` lines.
-fn write_readmem(
-    kind: ByteDigits,
-    image: Image,
-    width: usize,
-    lines: usize,
-    out: &mut [u8],
-) -> usize
-    requires size { (0 < width) × (width ≤ 4096) × (image.len ≤ 16777216) × (image.len ≤ 8 * length image.bytes.now) × (lines ≡ ceil_div image.len width) }
-    requires room { length (readmem_text kind image.bytes.now image.len width) ≤ length out.old }
-    ensures { Writes (readmem_text kind image.entry.bytes.now image.entry.len width) out.old 0 out.new result }
-{
-    if width % 8 == 0 {
-        return write_rows(kind, image, width, lines, out);
-    }
-    write_narrow(kind, image, width, lines, out)
 }
 
 // The file of one kind: a digit for each bit, or hexadecimal digits.
-#[tactic(auto, using(bitvec::proofs::Size::size_good, outcome::proofs::Outcome::inside, outcome::proofs::Outcome::exports_text, outcome::proofs::Outcome::exports_no_room), unfolding(crate::specs::Readmem::readmem_outcome))]
+#[tactic(auto, using(outcome::proofs::Outcome::inside, outcome::proofs::Outcome::exports_text, outcome::proofs::Outcome::exports_no_room), unfolding(crate::specs::Readmem::readmem_outcome))]
 fn format_readmem(kind: ByteDigits, image: Image, width: usize, out: &mut [u8]) -> Export
     ensures { Exports (readmem_outcome kind image.entry.bytes.now image.entry.len width (length out.old)) result out.old out.new }
 {
-    if image.bad_size() {
-        return Err(Refusal::ImageSize);
-    }
+    let good = image.good().ok_or(Refusal::ImageSize)?;
     if outcome::outside(1, 4096, width) {
         return Err(Refusal::OptionRange);
     }
-    let needed = readmem_length(kind, image.len, width);
+    let parts = ImageParts { good, width };
+    let lines = Lines { kind, parts };
+    let needed = lines.length();
     if out.len() < needed {
         return Err(Refusal::NoRoom(needed));
     }
-    let lines = bitvec::parts(image.len, width);
-    Ok(write_readmem(kind, image, width, lines, out))
+    Ok(lines.write(out))
 }
 
 // The file that `$readmemb` reads: lines of 1 to 4,096 bits.

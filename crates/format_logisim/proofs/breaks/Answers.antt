@@ -1,6 +1,6 @@
 -- `format_logisim::breaks` meets its contract: after k turns the newlines behind k chunks are counted.
 -- Assumes nothing.
-use mathlib.Core.Path.{◌≡◌, sym, ◌∙◌}
+use mathlib.Core.Path.{◌≡◌, sym}
 use mathlib.Core.Bool.{cond}
 use mir.Val.{bool_byte}
 use Prim.Native.Nat.{◌+◌, ◌*◌, ◌/◌, ◌%◌}
