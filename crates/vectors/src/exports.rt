@@ -1,6 +1,6 @@
 // The calls that lines stand for. The fields of a line are those that the record's head names.
 use crate::line::{Kind, Line};
-use crate::tables::{addr, column, decode, end, file, offset, size, span, start};
+use crate::tables::{Row, column, decode, rows};
 use bitvec::Image;
 use format_dump::DumpOptions;
 use format_list::{FormatListOptions, ListStrings};
@@ -8,35 +8,46 @@ use listing::{FormatAnnotatedOptions, SpanColumns};
 use outcome::Export;
 use sources::Sources;
 use spans::Span;
+use std::alloc::{AllocError, Global};
 
 // How long the rows of a table of spans are, and those of a listing's table.
 const ROW: usize = 8;
 
 const LISTING_ROW: usize = 28;
 
-fn export_separator(line: Line, image: Image, out: &mut [u8]) -> Export {
-    let mut buffer = [0u8; 256];
-    let separator = decode(line.string, &mut buffer);
-    format_separator::format_separator(image, line.option, separator, out)
+fn export_separator(
+    alloc: Global,
+    line: Line,
+    image: Image,
+    out: &mut [u8],
+) -> Result<Export, AllocError> {
+    let separator = decode(alloc, line.string)?;
+    let export = format_separator::format_separator(image, line.option, &separator, out);
+    Ok(export)
 }
 
-fn export_list(line: Line, image: Image, out: &mut [u8]) -> Export {
+fn export_list(
+    alloc: Global,
+    line: Line,
+    image: Image,
+    out: &mut [u8],
+) -> Result<Export, AllocError> {
     let options = FormatListOptions {
         base: line.option,
         digits_per_group: line.option2,
         groups_per_group2: line.option3,
     };
-    let mut before = [0u8; 256];
-    let mut after = [0u8; 256];
-    let mut between = [0u8; 256];
-    let mut between2 = [0u8; 256];
+    let before = decode(alloc, line.string)?;
+    let after = decode(alloc, line.string2)?;
+    let between = decode(alloc, line.string3)?;
+    let between2 = decode(alloc, line.string4)?;
     let strings = ListStrings {
-        before: decode(line.string, &mut before),
-        after: decode(line.string2, &mut after),
-        between: decode(line.string3, &mut between),
-        between2: decode(line.string4, &mut between2),
+        before: &before,
+        after: &after,
+        between: &between,
+        between2: &between2,
     };
-    format_list::format_list(image, options, strings, out)
+    Ok(format_list::format_list(image, options, strings, out))
 }
 
 fn export_dump(line: Line, image: Image, out: &mut [u8]) -> Export {
@@ -49,112 +60,125 @@ fn export_dump(line: Line, image: Image, out: &mut [u8]) -> Export {
 }
 
 // The first string is the table of spans.
-fn export_intelhex(line: Line, image: Image, out: &mut [u8]) -> Export {
-    let mut buffer = [0u8; 256];
-    let table = decode(line.string, &mut buffer);
-    let mut offsets = [0; 32];
-    let mut sizes = [0; 32];
-    intelhex::format_intelhex(
-        image,
-        column(table, ROW, offset, &mut offsets),
-        column(table, ROW, size, &mut sizes),
-        line.option,
-        out,
-    )
-}
-
-fn export_intelhex_records(line: Line, image: Image, out: &mut [u8]) -> Export {
-    let mut buffer = [0u8; 256];
-    let table = decode(line.string, &mut buffer);
-    let mut spans = [Span::new(0, 0, 0, 0, 0, 0); 32];
-    let spans = column(table, ROW, span, &mut spans);
-    hex_of_spans::format_intelhex(image, spans, line.option, out)
-}
-
-// The options of a listing. The fourth string is the label switch.
-fn listing_options(line: Line) -> FormatAnnotatedOptions {
-    let mut labels = [0u8; 1];
-    decode(line.string4, &mut labels);
-    FormatAnnotatedOptions {
-        base: line.option,
-        addr_base: line.option2,
-        digits_per_group: line.option3,
-        display_labels: labels[0],
-    }
-}
-
-// The listing of a table's rows.
-fn list_rows(
-    table: &[u8],
+fn export_intelhex(
+    alloc: Global,
+    line: Line,
     image: Image,
-    sources: Sources,
-    options: FormatAnnotatedOptions,
     out: &mut [u8],
-) -> Export {
-    let mut offsets = [0; 9];
-    let mut sizes = [0; 9];
-    let mut addrs = [0; 9];
-    let mut files = [0; 9];
-    let mut starts = [0; 9];
-    let mut ends = [0; 9];
-    let spans = SpanColumns {
-        offsets: column(table, LISTING_ROW, offset, &mut offsets),
-        sizes: column(table, LISTING_ROW, size, &mut sizes),
-        addrs: column(table, LISTING_ROW, addr, &mut addrs),
-        files: column(table, LISTING_ROW, file, &mut files),
-        starts: column(table, LISTING_ROW, start, &mut starts),
-        ends: column(table, LISTING_ROW, end, &mut ends),
-    };
-    annotated::format_annotated(image, spans, sources, options, out)
+) -> Result<Export, AllocError> {
+    let rows = rows(alloc, &decode(alloc, line.string)?, ROW)?;
+    let offsets = column(alloc, &rows, |row| row.offset)?;
+    let sizes = column(alloc, &rows, |row| row.size)?;
+    let export = intelhex::format_intelhex(image, &offsets, &sizes, line.option, out);
+    Ok(export)
 }
 
-fn list_records(
-    table: &[u8],
+fn export_intelhex_records(
+    alloc: Global,
+    line: Line,
     image: Image,
-    sources: Sources,
-    options: FormatAnnotatedOptions,
     out: &mut [u8],
-) -> Export {
-    let mut spans = [Span::new(0, 0, 0, 0, 0, 0); 9];
-    let spans = column(table, LISTING_ROW, span, &mut spans);
-    listing_of_spans::format_annotated(image, spans, sources, options, out)
+) -> Result<Export, AllocError> {
+    let rows = rows(alloc, &decode(alloc, line.string)?, ROW)?;
+    let spans = column(alloc, &rows, |row| Span::from(row))?;
+    let export = hex_of_spans::format_intelhex(image, &spans, line.option, out);
+    Ok(export)
 }
 
-// The first string is the table of spans, the second the firmware's text, the third the protocol's.
-fn export_annotated(records: bool, line: Line, image: Image, out: &mut [u8]) -> Export {
-    let mut buffer = [0u8; 256];
-    let table = decode(line.string, &mut buffer);
-    let mut firmware = [0u8; 256];
-    let mut protocol = [0u8; 256];
-    let sources = Sources {
-        firmware: decode(line.string2, &mut firmware),
-        protocol: decode(line.string3, &mut protocol),
-    };
-    let options = listing_options(line);
-    if records {
-        return list_records(table, image, sources, options, out);
+// What a line has for a listing: the first string is the table of spans, the second the firmware's
+// text, the third the protocol's, and the fourth the label switch.
+#[derive(Drop)]
+struct Listing {
+    rows: Vec<Row>,
+    firmware: Vec<u8>,
+    protocol: Vec<u8>,
+    options: FormatAnnotatedOptions,
+}
+
+impl Listing {
+    fn new(alloc: Global, line: Line) -> Result<Listing, AllocError> {
+        let labels = decode(alloc, line.string4)?;
+        Ok(Listing {
+            rows: rows(alloc, &decode(alloc, line.string)?, LISTING_ROW)?,
+            firmware: decode(alloc, line.string2)?,
+            protocol: decode(alloc, line.string3)?,
+            options: FormatAnnotatedOptions {
+                base: line.option,
+                addr_base: line.option2,
+                digits_per_group: line.option3,
+                display_labels: labels.first().copied().unwrap_or(0),
+            },
+        })
     }
-    list_rows(table, image, sources, options, out)
+
+    fn sources(&self) -> Sources {
+        Sources {
+            firmware: &self.firmware,
+            protocol: &self.protocol,
+        }
+    }
+
+    // The listing of the rows' numbers.
+    fn of_columns(
+        &self,
+        alloc: Global,
+        image: Image,
+        out: &mut [u8],
+    ) -> Result<Export, AllocError> {
+        let rows = &self.rows;
+        let offsets = column(alloc, rows, |row| row.offset)?;
+        let sizes = column(alloc, rows, |row| row.size)?;
+        let addrs = column(alloc, rows, |row| row.addr)?;
+        let files = column(alloc, rows, |row| row.file)?;
+        let starts = column(alloc, rows, |row| row.start)?;
+        let ends = column(alloc, rows, |row| row.end)?;
+        let spans = SpanColumns {
+            offsets: &offsets,
+            sizes: &sizes,
+            addrs: &addrs,
+            files: &files,
+            starts: &starts,
+            ends: &ends,
+        };
+        Ok(annotated::format_annotated(image, spans, self.sources(), self.options, out))
+    }
+
+    // The listing of the rows as records.
+    fn of_records(
+        &self,
+        alloc: Global,
+        image: Image,
+        out: &mut [u8],
+    ) -> Result<Export, AllocError> {
+        let spans = column(alloc, &self.rows, |row| Span::from(row))?;
+        Ok(listing_of_spans::format_annotated(image, &spans, self.sources(), self.options, out))
+    }
 }
 
 // The call that a line stands for.
-pub(crate) fn export(kind: Kind, line: Line, out: &mut [u8]) -> Export {
-    let mut buffer = [0u8; 64];
-    let image = Image::new(decode(line.image, &mut buffer), line.bits);
-    match kind {
+pub(crate) fn export(
+    alloc: Global,
+    kind: Kind,
+    line: Line,
+    out: &mut [u8],
+) -> Result<Export, AllocError> {
+    let bytes = decode(alloc, line.image)?;
+    let image = Image::new(&bytes, line.bits);
+    let export = match kind {
         Kind::Binary => format_plain::format_binary(image, out).map(|binary| binary.length),
         Kind::Str => format_plain::format_str(image, line.option, out),
         Kind::Readmemb => format_readmem::format_readmemb(image, line.option, out),
         Kind::Readmemh => format_readmem::format_readmemh(image, line.option, out),
-        Kind::Separator => export_separator(line, image, out),
+        Kind::Separator => export_separator(alloc, line, image, out)?,
         Kind::CArray => format_c_array::format_c_array(image, line.option, out),
-        Kind::List => export_list(line, image, out),
+        Kind::List => export_list(alloc, line, image, out)?,
         Kind::Mif => format_mif::format_mif(image, out),
         Kind::Logisim => format_logisim::format_logisim(image, line.option, out),
         Kind::Dump => export_dump(line, image, out),
-        Kind::Intelhex => export_intelhex(line, image, out),
-        Kind::IntelhexRecords => export_intelhex_records(line, image, out),
-        Kind::Annotated => export_annotated(false, line, image, out),
-        Kind::AnnotatedRecords => export_annotated(true, line, image, out),
-    }
+        Kind::Intelhex => export_intelhex(alloc, line, image, out)?,
+        Kind::IntelhexRecords => export_intelhex_records(alloc, line, image, out)?,
+        Kind::Annotated => Listing::new(alloc, line)?.of_columns(alloc, image, out)?,
+        Kind::AnnotatedRecords => Listing::new(alloc, line)?.of_records(alloc, image, out)?,
+    };
+    Ok(export)
 }

@@ -1,7 +1,8 @@
 // What is replayed, and a line of the record.
+use std::fmt;
 
 // The exporters, and the two that take spans through records.
-#[derive(Clone, Copy, PartialEq, Eq)]
+#[derive(Clone, Copy)]
 pub(crate) enum Kind {
     Binary,
     Str,
@@ -55,9 +56,11 @@ impl Kind {
             Kind::Annotated | Kind::AnnotatedRecords => 'a',
         }
     }
+}
 
-    pub(crate) fn name(self) -> &'static str {
-        match self {
+impl fmt::Display for Kind {
+    fn fmt<W: fmt::Write>(&self, f: &mut fmt::Formatter<W>) -> fmt::Result {
+        f.write_str(match self {
             Kind::Binary => "format_binary",
             Kind::Str => "format_str",
             Kind::Readmemb => "format_readmemb",
@@ -72,7 +75,7 @@ impl Kind {
             Kind::Annotated => "format_annotated",
             Kind::IntelhexRecords => "format_intelhex over records",
             Kind::AnnotatedRecords => "format_annotated over records",
-        }
+        })
     }
 }
 
@@ -95,29 +98,18 @@ impl<'a> Line<'a> {
     // The answer of a line, or none where it has too few fields or a number is none. The first field
     // tells the kind.
     pub(crate) fn parse(text: &'a str) -> Option<Line<'a>> {
-        let mut fields = text.split(' ');
-        fields.next()?;
-        let option = fields.next()?.parse().ok()?;
-        let option2 = fields.next()?.parse().ok()?;
-        let option3 = fields.next()?.parse().ok()?;
-        let string = fields.next()?;
-        let string2 = fields.next()?;
-        let string3 = fields.next()?;
-        let string4 = fields.next()?;
-        let bits = fields.next()?.parse().ok()?;
-        let image = fields.next()?;
-        let text = fields.next()?;
+        let mut fields = text.split(' ').skip(1);
         Some(Line {
-            option,
-            option2,
-            option3,
-            string,
-            string2,
-            string3,
-            string4,
-            bits,
-            image,
-            text,
+            option: fields.next()?.parse().ok()?,
+            option2: fields.next()?.parse().ok()?,
+            option3: fields.next()?.parse().ok()?,
+            string: fields.next()?,
+            string2: fields.next()?,
+            string3: fields.next()?,
+            string4: fields.next()?,
+            bits: fields.next()?.parse().ok()?,
+            image: fields.next()?,
+            text: fields.next()?,
         })
     }
 }

@@ -11,53 +11,72 @@ mod tables;
 use exports::export;
 use line::{Kind, Line};
 use outcome::Refusal;
+use std::alloc::{AllocError, Global};
 use std::io;
 use tables::decode;
 
 // What stands in the output buffer before a call.
 const OLD: u8 = 90;
 
+// How long the output buffer is.
+const ROOM: usize = 4200;
+
 // Whether a call into a room of `room` bytes gives the recorded text where that fits, and else refusal
 // 8 with its length. All other bytes of the buffer are as they were.
-fn agrees_in(kind: Kind, line: Line, text: &[u8], room: usize) -> bool {
-    let mut out = [OLD; 4200];
-    let mut expected = [OLD; 4200];
-    if 4200 < room {
-        return false;
-    }
-    let answer = export(kind, line, &mut out[..room]);
-    if room < text.len() {
-        return answer == Err(Refusal::NoRoom(text.len())) && out == expected;
-    }
-    output::put_all(&mut expected, 0, text);
-    answer == Ok(text.len()) && out == expected
+fn agrees_in(
+    alloc: Global,
+    kind: Kind,
+    line: Line,
+    text: &[u8],
+    room: usize,
+) -> Result<bool, AllocError> {
+    let mut out = vec![in alloc; OLD; ROOM]?;
+    let Some(lent) = out.as_mut_slice().get_mut(..room) else {
+        return Ok(false);
+    };
+    let answer = export(alloc, kind, line, lent)?;
+    let (expected, front) = if text.len() <= room {
+        (Ok(text.len()), text)
+    } else {
+        (Err(Refusal::NoRoom(text.len())), &text[..0])
+    };
+    let mut buffer = front.to_vec(alloc)?;
+    buffer.resize(ROOM, OLD)?;
+    Ok(answer == expected && out == buffer)
 }
 
 // Whether the recorded answer is the library's: in a room that the text fills, in one that is a byte
 // too small (the text's own where it is empty), and in a large one.
-fn replay(kind: Kind, line: Line) -> bool {
-    let mut buffer = [0u8; 4096];
-    let text = decode(line.text, &mut buffer);
+fn replay(alloc: Global, kind: Kind, line: Line) -> Result<bool, AllocError> {
+    let text = decode(alloc, line.text)?;
     let n = text.len();
-    agrees_in(kind, line, text, n)
-        && agrees_in(kind, line, text, n.saturating_sub(1))
-        && agrees_in(kind, line, text, 4200)
+    for room in [n, n.saturating_sub(1), ROOM] {
+        if !agrees_in(alloc, kind, line, &text, room)? {
+            return Ok(false);
+        }
+    }
+    Ok(true)
 }
 
-// Whether a line of the record is one of the exporter's, and its answer is the library's.
-fn replays(kind: Kind, text: &str) -> bool {
-    text.starts_with(kind.letter()) && Line::parse(text).is_some_and(|line| replay(kind, line))
+// Whether a line of the record can be read, and its answer is the library's.
+fn replays(alloc: Global, kind: Kind, text: &str) -> Result<bool, AllocError> {
+    match Line::parse(text) {
+        Some(line) => replay(alloc, kind, line),
+        None => Ok(false),
+    }
 }
 
 // Replays the answers of one exporter and prints how many were equal.
-fn report(rt: &impl Print, kind: Kind, record: &str) -> io::Result<()> {
-    let name = kind.name();
-    let lines = record
+fn report(rt: &(impl Print + AllocGlobal), kind: Kind, record: &str) -> io::Result<()> {
+    let alloc = rt.alloc();
+    let answers: Vec<bool> = record
         .lines()
         .filter(|text| text.starts_with(kind.letter()))
-        .count();
-    let equal = record.lines().filter(|text| replays(kind, text)).count();
-    println!(rt; "{name}: {equal} of {lines} recorded answers equal")
+        .map(|text| replays(alloc, kind, text))
+        .try_collect(alloc)?;
+    let lines = answers.len();
+    let equal = answers.iter().filter(|equal| **equal).count();
+    println!(rt; "{kind}: {equal} of {lines} recorded answers equal")
 }
 
 fn main(rt: HostRuntime) -> io::Result<()> {

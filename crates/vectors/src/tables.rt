@@ -2,89 +2,82 @@
 ghost use Rattle.std.specs.Prelude.{◌<◌};
 
 use spans::Span;
+use std::alloc::{AllocError, Global};
 
 // The value of a hexadecimal digit.
 fn nibble(digit: u8) -> Option<u8> {
-    match digit {
-        b'0'..=b'9' => Some(digit - b'0'),
-        b'a'..=b'f' => Some(digit - b'a' + 10),
-        _ => None,
-    }
+    char::from(digit).to_digit(16).map(|value| value as u8)
 }
 
 // The byte of two hexadecimal digits.
-fn byte(pair: &[u8]) -> Option<u8> {
-    let high = nibble(*pair.get(0)?)?;
-    let low = nibble(*pair.get(1)?)?;
-    Some((high << 4) | low)
+fn byte(pair: &[u8; 2]) -> Option<u8> {
+    let [high, low] = *pair;
+    Some((nibble(high)? << 4) | nibble(low)?)
 }
 
-// What each row of `width` bytes stands for, at the front of `to`, as many as there is room for. The
-// front is lent back.
-pub(crate) fn column<'a, T: Copy, F: Fn(&[u8]) -> T>(
-    table: &[u8],
-    width: usize,
-    value: F,
-    to: &'a mut [T],
-) -> &'a [T]
-    requires width { 0 < width }
-    requires value { F.IsAlwaysCallable value }
-{
-    let n = to.len().min(table.len() / width);
-    for (to, row) in to.iter_mut().zip(table.chunks_exact(width)) {
-        *to = value(row);
-    }
-    &to[..n]
+// The bytes of hexadecimal digits; none for `-`.
+pub(crate) fn decode(alloc: Global, digits: &str) -> Result<Vec<u8>, AllocError> {
+    let (pairs, _) = digits.as_bytes().as_chunks::<2>();
+    pairs
+        .iter()
+        .map(|pair| byte(pair).unwrap_or(0))
+        .collect(alloc)
 }
 
-// The bytes of hexadecimal digits, at the front of `to`; none for `-`.
-pub(crate) fn decode<'a>(digits: &str, to: &'a mut [u8]) -> &'a [u8] {
-    column(digits.as_bytes(), 2, |pair| byte(pair).unwrap_or(0), to)
+// A row of a table: a span.
+#[derive(Clone, Copy, Drop)]
+pub(crate) struct Row {
+    pub(crate) offset: u32,
+    pub(crate) size: u32,
+    pub(crate) addr: u64,
+    pub(crate) file: u8,
+    pub(crate) start: u64,
+    pub(crate) end: u64,
 }
 
-// `N` bytes of a row from `at` on, and zeros for those that it lacks.
+// `N` bytes of a row from `at` on, and zeros where it lacks them.
 fn part<const N: usize>(row: &[u8], at: usize) -> [u8; N] {
-    let mut bytes = [0; N];
-    for (to, from) in bytes.iter_mut().zip(row.iter().skip(at)) {
-        *to = *from;
+    row.get(at..)
+        .and_then(|rest| rest.first_chunk::<N>())
+        .copied()
+        .unwrap_or([0; N])
+}
+
+impl From<&[u8]> for Row {
+    // The numbers of a row, the low byte of each one first: of four bytes the offset and the size, and
+    // in a listing the address of eight, the file of one, and the start and the end of four.
+    fn from(row: &[u8]) -> Row {
+        Row {
+            offset: u32::from_le_bytes(part(row, 0)),
+            size: u32::from_le_bytes(part(row, 4)),
+            addr: u64::from_le_bytes(part(row, 8)),
+            file: u8::from_le_bytes(part(row, 16)),
+            start: u64::from(u32::from_le_bytes(part(row, 20))),
+            end: u64::from(u32::from_le_bytes(part(row, 24))),
+        }
     }
-    bytes
 }
 
-// The numbers of a row, the low byte of each one first: of four bytes the offset and the size, and in a
-// listing the address of eight, the file of one, and the start and the end of four.
-pub(crate) fn offset(row: &[u8]) -> u32 {
-    u32::from_le_bytes(part(row, 0))
+impl From<&Row> for Span {
+    fn from(row: &Row) -> Span {
+        Span::new(row.offset, row.size, row.addr, row.file, row.start, row.end)
+    }
 }
 
-pub(crate) fn size(row: &[u8]) -> u32 {
-    u32::from_le_bytes(part(row, 4))
+// The rows of a table, of `width` bytes each.
+pub(crate) fn rows(alloc: Global, table: &[u8], width: usize) -> Result<Vec<Row>, AllocError>
+    requires width { 0 < width }
+{
+    table.chunks_exact(width).map(Row::from).collect(alloc)
 }
 
-pub(crate) fn addr(row: &[u8]) -> u64 {
-    u64::from_le_bytes(part(row, 8))
-}
-
-pub(crate) fn file(row: &[u8]) -> u8 {
-    u8::from_le_bytes(part(row, 16))
-}
-
-pub(crate) fn start(row: &[u8]) -> u64 {
-    u32::from_le_bytes(part(row, 20)) as u64
-}
-
-pub(crate) fn end(row: &[u8]) -> u64 {
-    u32::from_le_bytes(part(row, 24)) as u64
-}
-
-// The record of a row.
-pub(crate) fn span(row: &[u8]) -> Span {
-    Span::new(
-        offset(row),
-        size(row),
-        addr(row),
-        file(row),
-        start(row),
-        end(row),
-    )
+// What a table has in one column, or its rows as records.
+pub(crate) fn column<T: Drop, F: FnMut(&Row) -> T>(
+    alloc: Global,
+    rows: &[Row],
+    value: F,
+) -> Result<Vec<T>, AllocError>
+    requires value { (f : _) (row : _) → F.pre f row }
+{
+    rows.iter().map(value).collect(alloc)
 }
