@@ -1,7 +1,8 @@
 // The refusals of the annotated listing, in the order of their numbers, for the image and the texts of
-// `listings`.
-use crate::listings::{Row, ack, list_two, nop, options, part, sixteen};
+// `listings` but where unequal columns and a bad text are lent.
+use crate::listings::{ACK, Example, LABELS, NOP, Row, SIXTEEN, list_two, run};
 use crate::tell::{OLD, Tally, gave};
+use annotated::format_annotated;
 use bitvec::Image;
 use listing::{FormatAnnotatedOptions, SpanColumns};
 use ordering::ABSENT;
@@ -9,221 +10,242 @@ use outcome::{Export, Refusal};
 use sources::Sources;
 use std::io;
 
-// The start that says that a span has no location.
-const NOWHERE: u64 = 18446744073709551615;
+// The start and the end of no location.
+const NO_LOCATION: u64 = 18446744073709551615;
 
-// Whether two spans give the refusal.
-fn refused(bits: usize, a: Row, b: Row, options: FormatAnnotatedOptions, refusal: Refusal) -> bool {
-    let mut out = [OLD; 256];
-    let answer = list_two(bits, a, b, options, &mut out);
-    gave(answer, &out, Err(refusal))
+// A label switch that is neither on nor off.
+const NO_SWITCH: FormatAnnotatedOptions = FormatAnnotatedOptions {
+    display_labels: 2,
+    ..SIXTEEN
+};
+
+const PAST_THE_BYTES: Example = Example {
+    name: "refusal 1: listing, 17 bits of two bytes, before a label switch of 2",
+    bits: 17,
+    spans: [NOP, Row { offset: 8, ..NOP }],
+    options: NO_SWITCH,
+    expected: Err(Refusal::ImageSize),
+};
+
+// Tells whether each of the options is refused, with a span that ends past 16,777,216.
+fn refused<P: Print>(
+    t: &mut Tally<P>,
+    name: &str,
+    options: &[FormatAnnotatedOptions],
+) -> io::Result<()> {
+    let bad = Row {
+        offset: 16777216,
+        size: 1,
+        ..NOP
+    };
+    let all = options.iter().all(|&options| {
+        let mut out = [OLD; 256];
+        let answer = list_two(16, [NOP, bad], options, &mut out);
+        gave(answer, &out, Err(Refusal::OptionRange))
+    });
+    t.tell(name, all)
 }
 
-// Whether options are refused, with a span that ends past 16,777,216.
-fn option_refused(options: FormatAnnotatedOptions) -> bool {
-    refused(
-        16,
-        nop(0, 8),
-        nop(16777216, 1),
-        options,
-        Refusal::OptionRange,
-    )
-}
-
-// Whether a span is refused that stands second as lent and first in order.
-fn span_refused(b: Row) -> bool {
-    refused(16, nop(8, 8), b, sixteen(0), Refusal::SpanFault(1))
-}
-
-fn past_the_bytes<P: Print>(t: &mut Tally<P>) -> io::Result<()> {
-    t.tell(
-        "refusal 1: listing, 17 bits of two bytes, before a label switch of 2",
-        refused(17, nop(0, 8), nop(8, 8), sixteen(2), Refusal::ImageSize),
-    )
-}
-
-fn base<P: Print>(t: &mut Tally<P>) -> io::Result<()> {
-    let ten = option_refused(options(10, 16, 2, 0));
-    t.tell(
+// Options of which one is outside its range.
+const OPTIONS: [(&str, [FormatAnnotatedOptions; 2]); 3] = [
+    (
         "refusal 2: listing, bases 10 and 64, before a bad span",
-        ten && option_refused(options(64, 16, 2, 0)),
-    )
-}
-
-fn address_base<P: Print>(t: &mut Tally<P>) -> io::Result<()> {
-    let one = option_refused(options(16, 1, 2, 0));
-    t.tell(
+        [
+            FormatAnnotatedOptions {
+                base: 10,
+                ..SIXTEEN
+            },
+            FormatAnnotatedOptions {
+                base: 64,
+                ..SIXTEEN
+            },
+        ],
+    ),
+    (
         "refusal 2: listing, address bases 1 and 37",
-        one && option_refused(options(16, 37, 2, 0)),
-    )
-}
-
-fn digits_per_group<P: Print>(t: &mut Tally<P>) -> io::Result<()> {
-    let none = option_refused(options(16, 16, 0, 0));
-    t.tell(
+        [
+            FormatAnnotatedOptions {
+                addr_base: 1,
+                ..SIXTEEN
+            },
+            FormatAnnotatedOptions {
+                addr_base: 37,
+                ..SIXTEEN
+            },
+        ],
+    ),
+    (
         "refusal 2: listing, 0 and 65 digits per group",
-        none && option_refused(options(16, 16, 65, 0)),
-    )
-}
+        [
+            FormatAnnotatedOptions {
+                digits_per_group: 0,
+                ..SIXTEEN
+            },
+            FormatAnnotatedOptions {
+                digits_per_group: 65,
+                ..SIXTEEN
+            },
+        ],
+    ),
+];
 
-fn label_switch<P: Print>(t: &mut Tally<P>) -> io::Result<()> {
-    t.tell(
-        "refusal 2: listing, a label switch of 2",
-        option_refused(sixteen(2)),
-    )
+fn options<P: Print>(t: &mut Tally<P>) -> io::Result<()> {
+    for (name, options) in &OPTIONS {
+        refused(t, name, options)?;
+    }
+    refused(t, "refusal 2: listing, a label switch of 2", &[NO_SWITCH])
 }
 
 // The answer for two spans with these sizes and ends, and a byte of 128 in the protocol's text.
 fn list_with(sizes: &[u32], ends: &[u64], out: &mut [u8]) -> Export {
-    annotated::format_annotated(
+    format_annotated(
         Image::new(&[0x12], 8),
         SpanColumns {
             offsets: &[0, 0],
-            sizes: sizes,
+            sizes,
             addrs: &[0, 0],
             files: &[0, 0],
             starts: &[0, 0],
-            ends: ends,
+            ends,
         },
         Sources {
             firmware: b"nop",
             protocol: b"\x80",
         },
-        sixteen(0),
+        SIXTEEN,
         out,
     )
 }
 
-fn one_size<P: Print>(t: &mut Tally<P>) -> io::Result<()> {
-    let mut out = [OLD; 256];
-    let answer = list_with(&[8], &[3, 3], &mut out);
-    t.tell(
+fn unequal_columns<P: Print>(t: &mut Tally<P>) -> io::Result<()> {
+    let refused = Err(Refusal::SpanRange(4096));
+    t.gives(
         "refusal 3: listing, two offsets and one size",
-        gave(answer, &out, Err(Refusal::SpanRange(4096))),
-    )
-}
-
-fn one_end<P: Print>(t: &mut Tally<P>) -> io::Result<()> {
-    let mut out = [OLD; 256];
-    let answer = list_with(&[8, 8], &[3], &mut out);
-    t.tell(
+        refused,
+        |out| list_with(&[8], &[3, 3], out),
+    )?;
+    t.gives(
         "refusal 3: listing, two offsets and one end, before a bad text",
-        gave(answer, &out, Err(Refusal::SpanRange(4096))),
+        refused,
+        |out| list_with(&[8, 8], &[3], out),
     )
 }
 
 // The place is the one as lent.
-fn bad_span<P: Print>(t: &mut Tally<P>) -> io::Result<()> {
-    t.tell(
-        "refusal 3: listing, span 1 ends past 16,777,216, before a fault of span 0",
-        refused(
-            16,
-            part(2, 0, 3),
-            nop(16777209, 8),
-            sixteen(0),
-            Refusal::SpanRange(1),
-        ),
-    )
-}
+const BAD_SPAN: Example = Example {
+    name: "refusal 3: listing, span 1 ends past 16,777,216, before a fault of span 0",
+    bits: 16,
+    spans: [
+        Row { file: 2, ..NOP },
+        Row {
+            offset: 16777209,
+            ..NOP
+        },
+    ],
+    options: SIXTEEN,
+    expected: Err(Refusal::SpanRange(1)),
+};
 
 // No span names the protocol, and the second span ends past its text.
 fn bad_text<P: Print>(t: &mut Tally<P>) -> io::Result<()> {
-    let mut out = [OLD; 256];
-    let answer = list_with(&[8, 8], &[3, 4], &mut out);
-    t.tell(
+    t.gives(
         "refusal 6: a byte of 128 in the protocol's text, before a fault of span 1",
-        gave(answer, &out, Err(Refusal::SourceText)),
+        Err(Refusal::SourceText),
+        |out| list_with(&[8, 8], &[3, 4], out),
     )
 }
 
-fn file<P: Print>(t: &mut Tally<P>) -> io::Result<()> {
-    t.tell("refusal 7: file 2", span_refused(part(2, 0, 3)))
-}
-
-fn no_location<P: Print>(t: &mut Tally<P>) -> io::Result<()> {
-    t.tell(
+// Spans that cannot be shown: each stands second as lent, and first in order.
+const FAULTS: [(&str, Row); 5] = [
+    ("refusal 7: file 2", Row { file: 2, ..NOP }),
+    (
         "refusal 7: no location",
-        span_refused(part(0, NOWHERE, NOWHERE)),
-    )
-}
-
-fn start_after_end<P: Print>(t: &mut Tally<P>) -> io::Result<()> {
-    t.tell("refusal 7: start 2, end 1", span_refused(part(1, 2, 1)))
-}
-
-fn end_past_the_text<P: Print>(t: &mut Tally<P>) -> io::Result<()> {
-    t.tell(
+        Row {
+            start: NO_LOCATION,
+            end: NO_LOCATION,
+            ..NOP
+        },
+    ),
+    (
+        "refusal 7: start 2, end 1",
+        Row {
+            start: 2,
+            end: 1,
+            ..ACK
+        },
+    ),
+    (
         "refusal 7: end 4 in a text of 3 bytes",
-        span_refused(part(1, 0, 4)),
-    )
-}
-
-fn absent_with_size<P: Print>(t: &mut Tally<P>) -> io::Result<()> {
-    t.tell(
+        Row { end: 4, ..ACK },
+    ),
+    (
         "refusal 7: an absent offset with size 8",
-        span_refused(ack(ABSENT, 8, 0)),
-    )
+        Row {
+            offset: ABSENT,
+            ..ACK
+        },
+    ),
+];
+
+fn faults<P: Print>(t: &mut Tally<P>) -> io::Result<()> {
+    let first = Row { offset: 8, ..NOP };
+    for (name, second) in FAULTS {
+        t.gives(name, Err(Refusal::SpanFault(1)), |out| {
+            list_two(16, [first, second], SIXTEEN, out)
+        })?;
+    }
+    Ok(())
 }
 
-fn two_faults<P: Print>(t: &mut Tally<P>) -> io::Result<()> {
-    let first = Row {
-        offset: 8,
-        size: 8,
-        addr: 0,
-        file: 2,
-        start: 0,
-        end: 3,
-    };
-    t.tell(
-        "refusal 7: two faults, the place of the first as lent",
-        refused(16, first, part(2, 0, 3), sixteen(0), Refusal::SpanFault(0)),
-    )
-}
+const TWO_FAULTS: Example = Example {
+    name: "refusal 7: two faults, the place of the first as lent",
+    bits: 16,
+    spans: [
+        Row {
+            offset: 8,
+            file: 2,
+            ..NOP
+        },
+        Row { file: 2, ..NOP },
+    ],
+    options: SIXTEEN,
+    expected: Err(Refusal::SpanFault(0)),
+};
 
 // The same span is hidden where labels are off, and then no fault; and a room of 0 comes after.
 fn shown_label<P: Print>(t: &mut Tally<P>) -> io::Result<()> {
     let label = Row {
-        offset: 0,
         size: 0,
-        addr: 0,
         file: 7,
         start: 1,
         end: 0,
+        ..NOP
     };
-    let mut out = [OLD; 256];
-    let answer = list_two(16, nop(0, 8), label, sixteen(1), &mut out[..0]);
-    t.tell(
+    t.gives(
         "refusal 7: labels on, a fault of an empty span, before no room",
-        gave(answer, &out, Err(Refusal::SpanFault(1))),
+        Err(Refusal::SpanFault(1)),
+        |out| list_two(16, [NOP, label], LABELS, &mut out[..0]),
     )
 }
 
 fn no_room<P: Print>(t: &mut Tally<P>) -> io::Result<()> {
-    let mut out = [OLD; 256];
-    let answer = list_two(16, nop(0, 8), ack(0, 4, 0), sixteen(0), &mut out[..78]);
-    t.tell(
+    let half = Row { size: 4, ..ACK };
+    t.gives(
         "refusal 8: listing in a room of 78",
-        gave(answer, &out, Err(Refusal::NoRoom(79))),
+        Err(Refusal::NoRoom(79)),
+        |out| list_two(16, [NOP, half], SIXTEEN, &mut out[..78]),
     )
 }
 
 // Runs them all.
 pub(crate) fn all<P: Print>(t: &mut Tally<P>) -> io::Result<()> {
-    past_the_bytes(t)?;
-    base(t)?;
-    address_base(t)?;
-    digits_per_group(t)?;
-    label_switch(t)?;
-    one_size(t)?;
-    one_end(t)?;
-    bad_span(t)?;
+    run(t, &[PAST_THE_BYTES])?;
+    options(t)?;
+    unequal_columns(t)?;
+    run(t, &[BAD_SPAN])?;
     bad_text(t)?;
-    file(t)?;
-    no_location(t)?;
-    start_after_end(t)?;
-    end_past_the_text(t)?;
-    absent_with_size(t)?;
-    two_faults(t)?;
+    faults(t)?;
+    run(t, &[TWO_FAULTS])?;
     shown_label(t)?;
     no_room(t)
 }

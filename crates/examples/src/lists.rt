@@ -1,140 +1,112 @@
 // The lists: bytes with a separator, the array of C, and digits in groups.
-use crate::tell::{OLD, Tally, gave};
+use crate::tell::Tally;
 use bitvec::Image;
-use format_list::{FormatListOptions, ListStrings};
+use format_c_array::format_c_array;
+use format_list::{FormatListOptions, ListStrings, format_list};
+use format_separator::format_separator;
 use outcome::Refusal;
 use std::io;
 
+const EMPTY: Image = Image { bytes: &[], len: 0 };
+
 fn c_array_row<P: Print>(t: &mut Tally<P>) -> io::Result<()> {
-    let mut out = [OLD; 256];
-    let answer = format_c_array::format_c_array(Image::new(&[0x12, 0x0f], 16), 16, &mut out);
-    t.tell(
+    let image = Image::new(&[0x12, 0x0f], 16);
+    t.gives(
         "C array radix 16, bytes 12 0F",
-        gave(
-            answer,
-            &out,
-            Ok(b"const unsigned char data[] = {\n\t/* 0x0 */ 0x12, 0x0f\n};"),
-        ),
+        Ok(b"const unsigned char data[] = {\n\t/* 0x0 */ 0x12, 0x0f\n};"),
+        |out| format_c_array(image, 16, out),
     )
 }
 
-// The last byte has spare bits that are set.
+// The bits abc in groups of two digits, with a string before, after and between them. The last byte
+// has spare bits that are set.
+const PAIRS: FormatListOptions = FormatListOptions {
+    base: 16,
+    digits_per_group: 2,
+    groups_per_group2: 0,
+};
+
+const TWELVE_BITS: Image = Image {
+    bytes: &[0xab, 0xcf],
+    len: 12,
+};
+
+const BRACKETS: ListStrings = ListStrings {
+    before: b"[",
+    after: b"]",
+    between: b",",
+    between2: b"",
+};
+
 fn list_row<P: Print>(t: &mut Tally<P>) -> io::Result<()> {
-    let mut out = [OLD; 256];
-    let options = FormatListOptions {
-        base: 16,
-        digits_per_group: 2,
-        groups_per_group2: 0,
-    };
-    let answer = format_list::format_list(
-        Image::new(&[0xab, 0xcf], 12),
-        options,
-        ListStrings {
-            before: b"[",
-            after: b"]",
-            between: b",",
-            between2: b"",
-        },
-        &mut out,
-    );
-    t.tell(
+    t.gives(
         "list base 16, 2 digits, 12 bits abc",
-        gave(answer, &out, Ok(b"[ab,c0]")),
+        Ok(b"[ab,c0]"),
+        |out| format_list(TWELVE_BITS, PAIRS, BRACKETS, out),
     )
 }
 
 fn second_string<P: Print>(t: &mut Tally<P>) -> io::Result<()> {
-    let mut out = [OLD; 256];
     let options = FormatListOptions {
         base: 2,
         digits_per_group: 1,
         groups_per_group2: 2,
     };
-    let answer = format_list::format_list(
-        Image::new(&[0b10110111], 5),
-        options,
-        ListStrings {
-            before: b"",
-            after: b"",
-            between: b".",
-            between2: b"/",
-        },
-        &mut out,
-    );
-    t.tell(
+    let strings = ListStrings {
+        before: b"",
+        after: b"",
+        between: b".",
+        between2: b"/",
+    };
+    let image = Image::new(&[0b10110111], 5);
+    t.gives(
         "list base 2, 1 digit, the second string after each second group",
-        gave(answer, &out, Ok(b"1.0/1.1/0")),
+        Ok(b"1.0/1.1/0"),
+        |out| format_list(image, options, strings, out),
     )
 }
 
 fn line_of_sixteen<P: Print>(t: &mut Tally<P>) -> io::Result<()> {
-    let mut out = [OLD; 256];
-    let image = [0, 1, 2, 3, 4, 5, 6, 7, 8, 9, 10, 11, 12, 13, 14, 15, 16];
-    let answer = format_separator::format_separator(Image::new(&image, 136), 10, b",", &mut out);
-    t.tell(
+    let bytes = [0, 1, 2, 3, 4, 5, 6, 7, 8, 9, 10, 11, 12, 13, 14, 15, 16];
+    t.gives(
         "separator radix 10, a newline after the sixteenth byte",
-        gave(
-            answer,
-            &out,
-            Ok(b"0,1,2,3,4,5,6,7,8,9,10,11,12,13,14,15,\n16"),
-        ),
+        Ok(b"0,1,2,3,4,5,6,7,8,9,10,11,12,13,14,15,\n16"),
+        |out| format_separator(Image::new(&bytes, 136), 10, b",", out),
     )
 }
 
 fn empty_array<P: Print>(t: &mut Tally<P>) -> io::Result<()> {
-    let mut out = [OLD; 256];
-    let answer = format_c_array::format_c_array(Image::new(b"", 0), 16, &mut out);
-    t.tell(
+    t.gives(
         "refusal 4: C array of an empty image",
-        gave(answer, &out, Err(Refusal::EmptyImage)),
-    )
-}
-
-fn radix_before_empty<P: Print>(t: &mut Tally<P>) -> io::Result<()> {
-    let mut out = [OLD; 256];
-    let answer = format_c_array::format_c_array(Image::new(b"", 0), 8, &mut out);
-    t.tell(
+        Err(Refusal::EmptyImage),
+        |out| format_c_array(EMPTY, 16, out),
+    )?;
+    t.gives(
         "refusal 2: C array radix 8, before an empty image",
-        gave(answer, &out, Err(Refusal::OptionRange)),
+        Err(Refusal::OptionRange),
+        |out| format_c_array(EMPTY, 8, out),
     )
 }
 
 fn long_separator<P: Print>(t: &mut Tally<P>) -> io::Result<()> {
-    let mut out = [OLD; 256];
+    let image = Image::new(&[0x12], 8);
     let separator = [44; 257];
-    let answer = format_separator::format_separator(
-        Image::new(&[0x12], 8),
-        10,
-        &separator,
-        &mut out,
-    );
-    t.tell(
+    t.gives(
         "refusal 2: a separator of 257 bytes",
-        gave(answer, &out, Err(Refusal::OptionRange)),
+        Err(Refusal::OptionRange),
+        |out| format_separator(image, 10, &separator, out),
     )
 }
 
 fn second_string_at_no_place<P: Print>(t: &mut Tally<P>) -> io::Result<()> {
-    let mut out = [OLD; 256];
-    let options = FormatListOptions {
-        base: 16,
-        digits_per_group: 2,
-        groups_per_group2: 0,
+    let strings = ListStrings {
+        between2: b";",
+        ..BRACKETS
     };
-    let answer = format_list::format_list(
-        Image::new(&[0xab, 0xcf], 12),
-        options,
-        ListStrings {
-            before: b"[",
-            after: b"]",
-            between: b",",
-            between2: b";",
-        },
-        &mut out,
-    );
-    t.tell(
+    t.gives(
         "refusal 2: a second string after each 0 groups",
-        gave(answer, &out, Err(Refusal::OptionRange)),
+        Err(Refusal::OptionRange),
+        |out| format_list(TWELVE_BITS, PAIRS, strings, out),
     )
 }
 
@@ -145,7 +117,6 @@ pub(crate) fn all<P: Print>(t: &mut Tally<P>) -> io::Result<()> {
     second_string(t)?;
     line_of_sixteen(t)?;
     empty_array(t)?;
-    radix_before_empty(t)?;
     long_separator(t)?;
     second_string_at_no_place(t)
 }

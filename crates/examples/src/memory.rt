@@ -1,48 +1,44 @@
-// The memory files: the memory initialization file and the image of Logisim.
-use crate::tell::{OLD, Tally, gave};
+// The memory files of hardware tools: the memory initialization file and the image of Logisim.
+use crate::tell::Tally;
 use bitvec::Image;
+use format_logisim::format_logisim;
+use format_mif::format_mif;
 use outcome::Refusal;
 use std::io;
 
+// The byte 12.
+const BYTE: Image = Image {
+    bytes: &[0x12],
+    len: 8,
+};
+
 fn mif_row<P: Print>(t: &mut Tally<P>) -> io::Result<()> {
-    let mut out = [OLD; 256];
-    let answer = format_mif::format_mif(Image::new(&[0x12], 8), &mut out);
-    t.tell(
+    t.gives(
         "MIF, byte 12",
-        gave(
-            answer,
-            &out,
-            Ok(
-                b"DEPTH = 1;\nWIDTH = 8;\nADDRESS_RADIX = HEX;\nDATA_RADIX = HEX;\n\nCONTENT\nBEGIN\n 0: 12;\nEND;",
-            ),
+        Ok(
+            b"DEPTH = 1;\nWIDTH = 8;\nADDRESS_RADIX = HEX;\nDATA_RADIX = HEX;\n\nCONTENT\nBEGIN\n 0: 12;\nEND;",
         ),
+        |out| format_mif(BYTE, out),
     )
 }
 
 fn logisim_row<P: Print>(t: &mut Tally<P>) -> io::Result<()> {
-    let mut out = [OLD; 256];
-    let answer = format_logisim::format_logisim(Image::new(&[0x12], 8), 4, &mut out);
-    t.tell(
-        "Logisim chunk 4, byte 12",
-        gave(answer, &out, Ok(b"v2.0 raw\n1 \n2 ")),
-    )
+    t.gives("Logisim chunk 4, byte 12", Ok(b"v2.0 raw\n1 \n2 "), |out| {
+        format_logisim(BYTE, 4, out)
+    })
 }
 
-fn empty_mif<P: Print>(t: &mut Tally<P>) -> io::Result<()> {
-    let mut out = [OLD; 256];
-    let answer = format_mif::format_mif(Image::new(b"", 0), &mut out);
-    t.tell(
+fn refusals<P: Print>(t: &mut Tally<P>) -> io::Result<()> {
+    let empty = Image::new(b"", 0);
+    t.gives(
         "refusal 4: MIF of an empty image",
-        gave(answer, &out, Err(Refusal::EmptyImage)),
-    )
-}
-
-fn logisim_no_chunk<P: Print>(t: &mut Tally<P>) -> io::Result<()> {
-    let mut out = [OLD; 256];
-    let answer = format_logisim::format_logisim(Image::new(&[0x12], 8), 0, &mut out);
-    t.tell(
+        Err(Refusal::EmptyImage),
+        |out| format_mif(empty, out),
+    )?;
+    t.gives(
         "refusal 2: Logisim chunk 0",
-        gave(answer, &out, Err(Refusal::OptionRange)),
+        Err(Refusal::OptionRange),
+        |out| format_logisim(BYTE, 0, out),
     )
 }
 
@@ -50,6 +46,5 @@ fn logisim_no_chunk<P: Print>(t: &mut Tally<P>) -> io::Result<()> {
 pub(crate) fn all<P: Print>(t: &mut Tally<P>) -> io::Result<()> {
     mif_row(t)?;
     logisim_row(t)?;
-    empty_mif(t)?;
-    logisim_no_chunk(t)
+    refusals(t)
 }

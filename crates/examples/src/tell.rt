@@ -30,6 +30,20 @@ impl<'a, P: Print> Tally<'a, P> {
         println!(rt; "{name}: ok")
     }
 
+    // Tells whether an export gives what is expected.
+    pub(crate) fn gives<F: FnOnce(&mut [u8; 256]) -> Export>(
+        &mut self,
+        name: &str,
+        expected: Expected,
+        export: F,
+    ) -> io::Result<()>
+        requires export { F.IsAlwaysCallable export }
+    {
+        let mut out = [OLD; 256];
+        let answer = export(&mut out);
+        self.tell(name, gave(answer, &out, expected))
+    }
+
     // Prints how many came out.
     pub(crate) fn total(&self) -> io::Result<()> {
         let rt = self.rt;
@@ -40,12 +54,9 @@ impl<'a, P: Print> Tally<'a, P> {
 
 // Whether the answer is the one expected, and the buffer has the expected text at its front and its old
 // contents behind it.
-pub(crate) fn gave(answer: Export, out: &[u8; 256], expected: Expected) -> bool {
-    let mut buffer = [OLD; 256];
+pub(crate) fn gave(answer: Export, out: &[u8], expected: Expected) -> bool {
     let text = expected.unwrap_or(b"");
-    if 256 < text.len() {
-        return false;
-    }
-    output::put_all(&mut buffer, 0, text);
-    answer == expected.map(|text| text.len()) && *out == buffer
+    let rest = out.strip_prefix(text);
+    answer == expected.map(|text| text.len())
+        && rest.is_some_and(|rest| rest.iter().all(|byte| *byte == OLD))
 }
