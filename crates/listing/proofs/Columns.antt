@@ -21,7 +21,7 @@ use Rattle.numbers.specs.Digits.{digit_count, number_text}
 use Rattle.numbers.proofs.Digits.{count_last, count_more, number_length, padded_length}
 use Rattle.bases.specs.Base.{base_bits}
 use Rattle.ordering.specs.Order.{offset_from}
-use Rattle.ordering.proofs.Offsets.{offset_some, offset_none}
+use Rattle.ordering.proofs.Numbered.{offset_some, offset_none}
 use Rattle.listing.specs.declared.FormatAnnotatedOptions.{FormatAnnotatedOptions}
 use Rattle.listing.specs.declared.Widths.{Widths}
 use Rattle.listing.specs.Listing.{out_of_range, bad_annotated, content_digits, content_need, addr_title, wider, widths_of, at_right, heading}

@@ -3,4 +3,4 @@ pub mod Flat
 pub mod Ordered
 pub mod Keys
 pub mod Checked
-pub mod Offsets
+pub mod Numbered

@@ -1,7 +1,7 @@
 -- `listing::ListedSpans::span` meets its contract: an offset that is there has not the number of an absent one.
 -- Assumes nothing.
 use mathlib.Core.Path.{sym, ◌∙◌}
-use Rattle.ordering.proofs.Offsets.{offset_there}
+use Rattle.ordering.proofs.Numbered.{offset_there}
 use Rattle.listing.proofs.ListedSpans.span.Goals as goal
 
 pub invariant_of-result : goal.invariant_of-result

@@ -1,7 +1,7 @@
 -- `listing_spans::ShownSpans::line` meets its contract: the span's numbers fit in the columns.
 -- Assumes nothing.
 use lib.ListN.{length, get_or}
-use Rattle.ordering.proofs.Offsets.{offset_lent}
+use Rattle.ordering.proofs.Numbered.{offset_lent}
 use Rattle.listing_spans.proofs.Fits.{fits_at}
 use Rattle.listing_spans.proofs.ShownSpans.line.Goals as goal
 
