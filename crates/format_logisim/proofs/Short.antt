@@ -15,7 +15,7 @@ use Rattle.output.specs.Pieces.{pieces, every}
 use Rattle.output.proofs.Order.{stride}
 use Rattle.output.proofs.Pieces.{pieces_next, pieces_append, pieces_equal, pieces_length}
 use Rattle.numbers.specs.Digits.{digit_char}
-use Rattle.eight_chars.specs.Word.{low_bytes}
+use Rattle.eight_chars.specs.Word.{low_bytes, lowest_bytes}
 use Rattle.output.proofs.Exhaust.{all, same, exhaust}
 use Rattle.digits.specs.Run.{digit_at, run, short_digit, hex_line}
 use Rattle.image_parts.specs.Parts.{part_bits}
@@ -34,7 +34,7 @@ broken_length w m v =
     length-append (pieces (λ k. digit_of w m v k ∷ ascii " \n") (m - 1)) (digit_of w m v (m - 1) ∷ ascii " ") ∙ rw front
 
 pub word_length : (v : ℕ) → length (low_bytes v) ≡ 8
-unfolding low_bytes
+unfolding lowest_bytes
 word_length v = pieces_length _ 1 8 (λ k h. refl)
 
 -- The binary digits of a byte are those of the halves.

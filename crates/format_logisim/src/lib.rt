@@ -219,13 +219,13 @@ impl<'a, const W: usize> ShortChunks<'a, W> {
     {
         let bytes = self.good.image.bytes;
         if W == 1 {
-            let next = eight_chars::put_word(out, at, spaced_ones(bytes[j] / 16));
-            return eight_chars::put_word(out, next, spaced_ones(bytes[j] % 16));
+            let next = eight_chars::put_low::<8>(out, at, spaced_ones(bytes[j] / 16));
+            return eight_chars::put_low::<8>(out, next, spaced_ones(bytes[j] % 16));
         }
         if W == 2 {
-            return eight_chars::put_word(out, at, spaced_twos(bytes[j]));
+            return eight_chars::put_low::<8>(out, at, spaced_twos(bytes[j]));
         }
-        hex_pair::put_four(out, at, spaced_fours(bytes[j]))
+        eight_chars::put_low::<4>(out, at, spaced_fours(bytes[j]))
     }
 
     // Stores `count` bytes from byte `first` on in such digits. The loop tests no place, so that the

@@ -7,6 +7,7 @@ use lib.Dec.{T}
 use Rattle.output.specs.Pieces.{pieces}
 use Rattle.numbers.specs.Digits.{digit_char}
 use Rattle.hex_pair.specs.Pair.{four_bytes}
+use Rattle.eight_chars.specs.Word.{lowest_bytes}
 use Rattle.output.proofs.Exhaust.{all, same, exhaust}
 use Rattle.format_logisim.specs.Short.{digit_of, spaced_digits}
 use Rattle.format_logisim.proofs.spaced_fours.Goals as goal
@@ -22,7 +23,7 @@ abbrev word : ℕ → ℕ
 word b = digits b + 540024880 + letters b * 39
 
 right : T (all (λ b. same (four_bytes (word b)) (spaced_digits 4 2 b)) 256)
-unfolding four_bytes spaced_digits digit_of pieces digit_char
+unfolding lowest_bytes spaced_digits digit_of pieces digit_char
 right = tt
 
 -- nothing wraps

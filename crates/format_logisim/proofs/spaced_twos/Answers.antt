@@ -6,7 +6,7 @@ use lib.Bits.{bit_and, bit_or}
 use lib.Dec.{T}
 use Rattle.output.specs.Pieces.{pieces}
 use Rattle.numbers.specs.Digits.{digit_char}
-use Rattle.eight_chars.specs.Word.{low_bytes}
+use Rattle.eight_chars.specs.Word.{low_bytes, lowest_bytes}
 use Rattle.output.proofs.Exhaust.{all, same, exhaust}
 use Rattle.format_logisim.specs.Short.{digit_of, spaced_digits}
 use Rattle.format_logisim.proofs.spaced_twos.Goals as goal
@@ -16,7 +16,7 @@ abbrev word : ℕ → ℕ
 word b = bit_or (bit_and ((b / 16 + b % 16 * 4294967296) * 134479873 / 2 ^ 2) 72903131381563651) 2319389199166349360
 
 right : T (all (λ b. same (low_bytes (word b)) (spaced_digits 2 4 b)) 256)
-unfolding low_bytes spaced_digits digit_of pieces digit_char
+unfolding lowest_bytes spaced_digits digit_of pieces digit_char
 right = tt
 
 pub returns : goal.returns

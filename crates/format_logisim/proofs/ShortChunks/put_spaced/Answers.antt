@@ -10,10 +10,10 @@ use Rattle.output.proofs.Writes.{writes_then, writes_length}
 use Rattle.format_logisim.proofs.Short.{word_length, halves, four_bits}
 use Rattle.format_logisim.proofs.ShortChunks.put_spaced.Goals as goal
 
-pub put_word-requires : goal.put_word-requires
-put_word-requires g c =
+pub put_low-requires : goal.put_low-requires
+put_low-requires g c =
     omega
-    (arith, rw c.if-this-eq1.true at c.requires.1, c.put_word-next.ensures.next, writes_length c.put_word-next.ensures, word_length c.spaced_ones.result)
+    (arith, rw c.if-this-eq1.true at c.requires.1, c.put_low-next.ensures.next, writes_length c.put_low-next.ensures, word_length c.spaced_ones.result)
 
 pub returns-then-this-eq1 : goal.returns-then-this-eq1
 returns-then-this-eq1 g c =
@@ -26,12 +26,12 @@ returns-then-this-eq1 g c =
       ← c.spaced_ones.ensures,
       ← c.spaced_ones-then-this-eq1.ensures,
     )
-    (writes_then c.put_word-next.ensures c.put_word.ensures)
+    (writes_then c.put_low-next.ensures c.put_low.ensures)
 
 pub returns-then-this-eq2 : goal.returns-then-this-eq2
 returns-then-this-eq2 g c =
     let i = c.args.self.good.image in
-    rw (c.if-this-eq2.true, byte_whole i.bytes.now i.len c.args.j c.requires.0 (search rules), ← c.spaced_twos.ensures) c.put_word-then-this-eq2.ensures
+    rw (c.if-this-eq2.true, byte_whole i.bytes.now i.len c.args.j c.requires.0 (search rules), ← c.spaced_twos.ensures) c.put_low-then-this-eq2.ensures
 
 pub returns : goal.returns
 returns g c =
@@ -39,4 +39,4 @@ returns g c =
     let short = c.args.self.short in
     let four : w ≡ 4 = four_bits w (8 / w) short.0 short.1 c.if-this-eq1.false c.if-this-eq2.false in
     let i = c.args.self.good.image in
-    rw (four, byte_whole i.bytes.now i.len c.args.j c.requires.0 (search rules), ← c.spaced_fours.ensures) c.put_four.ensures
+    rw (four, byte_whole i.bytes.now i.len c.args.j c.requires.0 (search rules), ← c.spaced_fours.ensures) c.put_low-2.ensures
