@@ -1,6 +1,6 @@
 // The blocks of a slice of span records, and their Intel HEX export (document 01, "Forms to follow"):
 // each function copies the offsets and the sizes of the records, and calls the core on these. They
-// are two slices, and no list of spans, since the core takes them as the C interface lends them (a).
+// are two slices, and no list of spans, since the core takes them as the C interface lends them.
 #![tactic(auto)]
 
 ghost use Rattle.std.specs.Prelude.{◌≡◌, length};

@@ -39,7 +39,7 @@ impl PutByte for Computed {
 }
 
 // Writes `count` bytes of the image from `from` on, and adds them to `sum`, modulo 256. `byte_at` reads
-// them: byte 0 is the one at `from`. The loop counts, since `byte_at` is asked by number (d).
+// them: byte 0 is the one at `from`. The loop counts, since `byte_at` is asked by number.
 fn put_bytes<F: Fn(usize) -> u8>(
     image: Image,
     from: BitOffset,

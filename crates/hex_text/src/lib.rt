@@ -66,7 +66,7 @@ impl Digits {
     }
 
     // Writes a record of one byte, which is at hand: the tests and the loop of `put_record` would
-    // find and read it once more (d).
+    // find and read it once more.
     #[tactic(auto, using(output::proofs::Writes::writes_length, hex_records::proofs::Text::hex_length), unfolding(numbers::specs::Digits::byte_text))]
     fn put_single(&self, data_record: DataRecord, byte: u8, out: &mut [u8], at: usize) -> usize
         requires { (data_record.count ≡ 1) × (at + 14 ≤ length out.old) }
@@ -147,7 +147,7 @@ fn put_records(image: Image, block: LowBlock, out: &mut [u8], at: usize) -> usiz
     ensures { Writes (flat_map (record_text image.entry.bytes.now image.entry.len) (records_of block.block block.unit)) out.old at out.new result }
 {
     let mut next = at;
-    // The loop counts, since a record is made from its number (d).
+    // The loop counts, since a record is made from its number.
     for n in 0..block.block.records() {
         next = put_record(image, block.record(n), out, next);
     }

@@ -55,7 +55,7 @@ fn format_spans<const N: usize>(
 
 // Intel HEX records of the blocks that the spans make, and the end record. A span is an offset, with
 // 4294967295 for an absent one, and a size, in two slices of one length. They are two slices here, and
-// no list, since the C interface lends them so (a): that they have one length is still to be seen.
+// no list, since the C interface lends them so: that they have one length is still to be seen.
 #[tactic(auto, using(outcome::proofs::Outcome::inside, span_range::proofs::Good::short_list), unfolding(crate::specs::Hex::hex_outcome))]
 pub fn format_intelhex(
     image: Image,

@@ -31,7 +31,7 @@ fn read_word(job: &[u8], at: usize) -> u32
 }
 
 // Reads one number of each row of a table into `to`, which has a place for each row. The loop counts,
-// since a number is read at a place, 8 bytes behind the one before (d).
+// since a number is read at a place, 8 bytes behind the one before.
 fn read_column(rows: &[u8], at: usize, to: &mut [u32])
     requires { at + 8 * length to.old ≤ length rows.now + 4 }
     ensures { to.new ≡ column rows.now at (length to.old) }
