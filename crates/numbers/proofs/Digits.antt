@@ -5,7 +5,7 @@ use mathlib.Core.Bool.{Bool, true, false, cond}
 use mathlib.Core.List.{List, [], ◌∷◌, ◌++◌, map, map-append}
 use Prim.Native.Nat.{ℕ, zero, suc, ◌+◌, ◌*◌, ◌/◌, ◌%◌, ◌^◌, ◌≤◌, ◌<◌, ◌-◌, max}
 use native.Mathlib.Omega.{arith}
-use native.Mathlib.Nat.{mul-one, pow-suc, pow-zero, div-lt_self, div-lt_iff_lt-mul, lt_of_lt_of_le, mul-le-mul_left, mul-le-mul_right, mul_comm, le-div_iff_mul-le, div-mul-le_self}
+use native.Mathlib.Nat.{mod-lt, mul-one, pow-suc, pow-zero, div-lt_self, div-lt_iff_lt-mul, lt_of_lt_of_le, mul-le-mul_left, mul-le-mul_right, mul_comm, le-div_iff_mul-le, div-mul-le_self}
 use lib.Dec.{ltb}
 use lib.ListN.{length, replicate, length-append, length-map, length-replicate}
 use borrow.Author.Tests.{lt-ltb, le-ltb, ltb-false}
@@ -32,6 +32,10 @@ digits_last radix n h = simp (lt-ltb n radix h)
 -- A division makes it smaller.
 pub smaller : (radix n : ℕ) → 2 ≤ radix → radix ≤ n → n / radix < n
 smaller radix n h l = div-lt_self (omega arith) (omega arith)
+
+-- What is left behind it is a digit.
+pub remainder_small : (radix n : ℕ) → 2 ≤ radix → n % radix < radix
+remainder_small radix n h = mod-lt n (omega arith)
 
 -- Any number of steps above the value is enough.
 enough : (radix : ℕ) → 2 ≤ radix → (s t n : ℕ) → n < s → n < t → digits_in s radix n ≡ digits_in t radix n

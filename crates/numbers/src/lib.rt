@@ -120,6 +120,7 @@ pub fn digit_count(value: u64, radix: u64) -> usize
 
 // Stores a number so that it ends before `end`, and answers where it begins. The last digit is found
 // first, so the digits are stored from the back; the loop goes by what is left of the number.
+#[tactic(auto, using(crate::proofs::Digits::smaller, crate::proofs::Digits::remainder_small))]
 fn put_before(out: &mut [u8], end: usize, letters: Letters, value: u64, radix: Radix) -> usize
     requires { (digit_count radix.value value ≤ end) × (end ≤ length out.old) }
     ensures { Writes (number_text letters radix.value value) out.old result out.new end }

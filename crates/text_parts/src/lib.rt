@@ -45,7 +45,6 @@ pub fn put_part(out: &mut [u8], at: usize, part: &[u8]) -> usize
 }
 
 // Stores the first `count` parts of `s`, of `size` characters each, and a character behind each. The
-// sizes that digits of whole bytes have are numbers of the code, so that a part is one store. The
 // parts are counted, since they may have no characters, and `chunks_exact` wants some.
 #[tactic(auto, using(crate::proofs::Parts::part_within))]
 pub fn put_parts(out: &mut [u8], at: usize, s: &[u8], size: usize, tail: u8, count: usize) -> usize

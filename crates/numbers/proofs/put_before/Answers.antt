@@ -3,13 +3,12 @@
 use mathlib.Core.Path.{◌≡◌, refl, sym, ◌∙◌}
 use mathlib.Core.List.{[], ◌∷◌, append-nil, append_assoc}
 use Prim.Native.Nat.{◌/◌, ◌%◌}
-use native.Mathlib.Nat.{mod-lt}
 use native.Mathlib.Omega.{arith}
 use lib.ListN.{length-set}
 use borrow.Author.Rules.{rules}
 use Rattle.output.proofs.Writes.{sets_before}
 use Rattle.numbers.specs.Digits.{digit_char, number_text}
-use Rattle.numbers.proofs.Digits.{smaller, count_last, count_more, count_some, number_last, number_more, number_length}
+use Rattle.numbers.proofs.Digits.{count_last, count_more, count_some, number_last, number_more, number_length}
 use Rattle.numbers.proofs.put_before.Goals as goal
 
 pub loop-rest-init : goal.loop-rest-init
@@ -19,20 +18,9 @@ pub overflow_sub-place : goal.overflow_sub-place
 overflow_sub-place c =
     omega (arith, count_some c.args.radix.value c.loop-rest.rest c.args.radix.in_range.0)
 
-pub overflow_cast-digit : goal.overflow_cast-digit
-overflow_cast-digit c =
-    omega (arith, mod-lt c.loop-rest.rest {m = c.args.radix.value} (omega arith))
-
-pub digit_char-requires : goal.digit_char-requires
-digit_char-requires c =
-    omega (arith, mod-lt c.loop-rest.rest {m = c.args.radix.value} (omega arith))
-
 pub bounds-out-place : goal.bounds-out-place
 bounds-out-place c =
     omega (arith, count_some c.args.radix.value c.loop-rest.rest c.args.radix.in_range.0)
-
-pub loop-rest-smaller : goal.loop-rest-smaller
-loop-rest-smaller c = smaller _ _ c.args.radix.in_range.0 c.loop-rest-test.true
 
 pub loop-rest-preserved : goal.loop-rest-preserved
 loop-rest-preserved c =
