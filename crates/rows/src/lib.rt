@@ -199,8 +199,8 @@ pub fn put_rows(
     ensures { Writes (rows_text kind bytes.entry.image.bytes.now bytes.entry.image.len bytes.entry.first width tail.now count) out.old at out.new result }
 {
     match (width, tail) {
-        (1, [a]) if 8 <= count => put_chunks(out, at, kind, bytes, 1, &[*a], count),
-        (1, [a, b]) if 8 <= count => put_chunks(out, at, kind, bytes, 1, &[*a, *b], count),
+        (1, [a]) => put_chunks(out, at, kind, bytes, 1, &[*a], count),
+        (1, [a, b]) => put_chunks(out, at, kind, bytes, 1, &[*a, *b], count),
         (1, _) => put_chunks(out, at, kind, bytes, 1, tail, count),
         (2, [a]) => put_chunks(out, at, kind, bytes, 2, &[*a], count),
         (4, [a]) => put_chunks(out, at, kind, bytes, 4, &[*a], count),
