@@ -13,6 +13,7 @@ use borrow.Author.Tests.{eq-eqb, ne_eqb}
 use Rattle.output.specs.Pieces.{pieces, leading, joined}
 use Rattle.output.proofs.Order.{stride}
 use Rattle.output.proofs.Pieces.{pieces_none, pieces_next, pieces_append, pieces_equal, pieces_most}
+use Rattle.output.specs.Writes.{Writes}
 use Rattle.text_parts.specs.Parts.{headed_text}
 use Rattle.text_parts.proofs.Parts.{part_length, headed_length, pieces_cut}
 use Rattle.digits.specs.Run.{run}
@@ -33,6 +34,10 @@ pub next_second : (m q n : ℕ) → 0 < m → n ≡ m - 1 - q % m → (q + (1 + 
 next_second m q n p e =
     let place : q + (1 + n) ≡ suc (q / m) * m = omega (arith, e, div-add-mod' q m, suc-mul (q / m) m, mod-lt q p) in
     rw place (mul-mod_left (suc (q / m)) m)
+
+-- The groups behind group q that have the first string before them, as far as they are among all: those of one turn.
+pub turn_few : (m k j left n count : ℕ) → 0 < m → left ≡ m - 1 - (k + j) % m → n ≤ left → n ≤ count - 1 - j → j < count → ((k + j) % m + n < m) × (j + (1 + n) ≤ count)
+turn_few m k j left n count p e l h b = (omega (arith, e, l, mod-lt (k + j) p), omega (arith, h, b))
 
 -- The string before a group: the first where m does not divide its number, and else the second.
 pub before_first : (m : ℕ) (between between2 : List ℕ) (k : ℕ) → 0 < k → m - 1 - k % m < m - 1 → leading (string_at m between between2) k ≡ between
@@ -95,6 +100,12 @@ cut_room m between between2 s size k j n count l h b =
       part_length s (j * size) size (omega (arith, stride j count size (omega arith))),
       headed_length s size (j + 1) between n (omega (arith, fewer, place)),
     )
+
+-- So the groups of one turn have room behind those before them.
+pub turn_room : (m : ℕ) (between between2 s : List ℕ) (size k j n count : ℕ) {at next : ℕ} {out out₀ : List ℕ} → Writes (cut_text m between between2 s size k j) out₀ at out next
+    → length out ≡ length out₀ → at + length (cut_text m between between2 s size k count) ≤ length out₀ → ((k + j) % m + n < m) × (j + (1 + n) ≤ count) → count * size ≤ length s
+    → next + (length (leading (string_at m between between2) (k + j)) + size + n * (length between + size)) ≤ length out
+turn_room m between between2 s size k j n count w e room few all = omega (arith, w.next, e, room, cut_room m between between2 s size k j n count few.0 few.1 all)
 
 -- Digits that start with those of n groups are cut into the groups.
 pub groups_cut : (s : List ℕ) (m : ℕ) (between between2 bytes : List ℕ) (len w size k n : ℕ) → take (n * size) s ≡ run bytes len w (k * (size * w)) (n * size)

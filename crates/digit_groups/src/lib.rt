@@ -31,6 +31,7 @@ fn put_string(out: &mut [u8], at: usize, strings: Strings, k: usize, left: usize
 // Stores the first `count` parts of `s` as the groups from group `k` on. In a turn one group is written
 // with what stands before it, and then those behind it that have `between` before them: as many as it
 // happens, so that no iterator counts them.
+#[tactic(auto, using(crate::proofs::Groups::turn_few))]
 fn put_cut(
     out: &mut [u8],
     at: usize,
@@ -92,6 +93,7 @@ fn put_blocks(
 {
     let most = digit_lines::block_lines(groups.size);
     let mut next = at;
+    // The first group of a block is computed with.
     for k in (0..count).step_by(most) {
         let block = most.min(count - k);
         next = put_block(out, next, groups, strings, k, block);

@@ -101,17 +101,7 @@ byte_next kind bytes len i k =
     let more : (k + 1) * digits_per_byte kind ≡ k * digits_per_byte kind + digits_per_byte kind = omega (arith, suc-mul k (digits_per_byte kind)) in
     rw (more, run_append bytes len (digit_bits kind) i (k * digits_per_byte kind) (digits_per_byte kind), whole_bits kind k, byte_run kind bytes len (i + k * 8))
 
--- The digits of some bytes, and those behind them.
-pub whole_rest : (kind : ByteDigits) (bytes : List ℕ) (len i whole count : ℕ) → whole * digits_per_byte kind ≤ count
-    → run bytes len (digit_bits kind) i count
-    ≡ run bytes len (digit_bits kind) i (whole * digits_per_byte kind) ++ run bytes len (digit_bits kind) (i + whole * 8) (count - whole * digits_per_byte kind)
-whole_rest kind bytes len i whole count h =
-    let all : whole * digits_per_byte kind + (count - whole * digits_per_byte kind) ≡ count = omega arith in
-    ap (run bytes len (digit_bits kind) i) (sym all)
-    ∙ run_append bytes len (digit_bits kind) i (whole * digits_per_byte kind) (count - whole * digits_per_byte kind)
-    ∙ rw (whole_bits kind whole)
-
--- So are whole bytes.
+-- Whole bytes are a run of digits.
 pub bytes_run : (kind : ByteDigits) (bytes : List ℕ) (len i m : ℕ)
     → bytes_text kind bytes len i m ≡ run bytes len (digit_bits kind) (i * 8) (m * digits_per_byte kind)
 unfolding bytes_text pieces
@@ -120,34 +110,10 @@ bytes_run kind bytes len i (suc m) =
     let place : i * 8 + m * 8 ≡ (i + m) * 8 = omega arith in
     rw (bytes_run kind bytes len i m, ← add-one m, byte_next kind bytes len (i * 8) m, place)
 
--- A byte has digits.
-pub per_some : (kind : ByteDigits) → 0 < digits_per_byte kind
-per_some Binary = omega arith
-per_some Hex = omega arith
-
--- A digit has few bits.
-pub bits_few : (kind : ByteDigits) → digit_bits kind ≤ 5
-bits_few Binary = omega arith
-bits_few Hex = omega arith
-
 -- The digits of whole bytes, as many as are among some digits.
 pub whole_digits : (kind : ByteDigits) (whole count : ℕ) → whole ≤ count / digits_per_byte kind → whole * digits_per_byte kind ≤ count
 whole_digits Binary whole count h = omega arith
 whole_digits Hex whole count h = omega arith
-
--- The bits of the digits behind them end where those of all do.
-pub rest_bits : (kind : ByteDigits) (first whole count : ℕ) → whole * digits_per_byte kind ≤ count
-    → (first + whole) * 8 + (count - whole * digits_per_byte kind) * digit_bits kind ≡ first * 8 + count * digit_bits kind
-rest_bits Binary first whole count h = omega arith
-rest_bits Hex first whole count h = omega arith
-
--- Whole bytes and the digits behind them are a run.
-pub bytes_rest : (kind : ByteDigits) (bytes : List ℕ) (len first whole count : ℕ) → whole * digits_per_byte kind ≤ count
-    → run bytes len (digit_bits kind) (first * 8) count
-    ≡ bytes_text kind bytes len first whole ++ run bytes len (digit_bits kind) ((first + whole) * 8) (count - whole * digits_per_byte kind)
-bytes_rest kind bytes len first whole count h =
-    let place : first * 8 + whole * 8 ≡ (first + whole) * 8 = omega arith in
-    rw (whole_rest kind bytes len (first * 8) whole count h, place, bytes_run kind bytes len first whole)
 
 -- Eight digits that lie in eight whole bytes, cut out of the number that these make.
 pub word_run : (bytes : List ℕ) (len n at shift w word : ℕ) → word ≡ bits_at bytes n (at * 8) 64 → shift + 8 * w ≤ 64 → at * 8 + 64 ≤ len → at * 8 + 64 ≤ n

@@ -68,6 +68,8 @@ fn put_words(out: &mut [u8], at: usize, digits: DigitRun, count: usize) -> usize
     let first = digits.from.byte();
     let behind = (64 - (digits.from.shift() + 8 * width.bits)) as u64;
     let mut next = at;
+    // The places are computed: the eight bytes overlap those of the next turn, so that they are no
+    // chunks, and windows with steps between them are no plainer.
     for k in 0..count {
         let word = bitvec::read_word(digits.image.bytes, first + k * width.bits);
         next = word_digits::put_eight(out, next, word >> behind, width);

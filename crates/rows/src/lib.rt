@@ -53,7 +53,8 @@ impl ByteDigits {
     }
 }
 
-// Stores a byte in digits.
+// Stores a byte in digits. The compiler takes this choice out of the loops that it stands in, so that a
+// type for each kind would be no faster, and want a trait.
 pub fn put_digits(out: &mut [u8], at: usize, kind: ByteDigits, byte: u8) -> usize
     requires { at + digits_per_byte kind ≤ length out.old }
     ensures { Writes (byte_digits kind byte) out.old at out.new result }
@@ -180,7 +181,10 @@ pub fn put_by_twos(out: &mut [u8], at: usize, bytes: WholeBytes, tail: u8) -> us
     next
 }
 
-// Stores the bytes in `count` rows of `width`, and `tail` behind each.
+// Stores the bytes in `count` rows of `width`, and `tail` behind each. Rows of one byte, and rows of two
+// and of four with one character behind, are the most frequent ones, and have loops of their own: with
+// `put_wide` for all, hexadecimal ones of one byte took eleven times as long, and those of two and of
+// four three times.
 pub fn put_rows(
     out: &mut [u8],
     at: usize,
@@ -195,8 +199,8 @@ pub fn put_rows(
     ensures { Writes (rows_text kind bytes.entry.image.bytes.now bytes.entry.image.len bytes.entry.first width tail.now count) out.old at out.new result }
 {
     match (width, tail) {
-        (1, [a]) if 8 <= count => put_chunks(out, at, kind, bytes, 1, &[*a], count),
-        (1, [a, b]) if 8 <= count => put_chunks(out, at, kind, bytes, 1, &[*a, *b], count),
+        (1, [a]) => put_chunks(out, at, kind, bytes, 1, &[*a], count),
+        (1, [a, b]) => put_chunks(out, at, kind, bytes, 1, &[*a, *b], count),
         (1, _) => put_chunks(out, at, kind, bytes, 1, tail, count),
         (2, [a]) => put_chunks(out, at, kind, bytes, 2, &[*a], count),
         (4, [a]) => put_chunks(out, at, kind, bytes, 4, &[*a], count),
