@@ -9,7 +9,7 @@ use native.Mathlib.Nat.{mul_assoc, add-mul, suc-mul, mul-mod_left, add-div_right
 use lib.Arith.{digits_mod}
 use lib.Dec.{eqb}
 use lib.ListN.{length, length-append}
-use borrow.Author.Tests.{ne_eqb}
+use borrow.Author.Tests.{eq-eqb, ne_eqb}
 use Rattle.output.specs.Pieces.{pieces, leading, joined}
 use Rattle.output.proofs.Joined.{joined_alike}
 use Rattle.output.proofs.Pieces.{pieces_equal}
@@ -21,7 +21,7 @@ use Rattle.bases.specs.Base.{base_bits}
 use Rattle.digits.proofs.Run.{bytes_run}
 use Rattle.format_list.specs.declared.FormatListOptions.{FormatListOptions}
 use Rattle.format_list.specs.List.{group_bits, group_text, between_groups}
-use Rattle.format_list.specs.Bytes.{whole_bytes, group_bytes, alike}
+use Rattle.format_list.specs.Bytes.{whole_bytes, group_bytes, group_kind, alike}
 use Rattle.format_list.proofs.Lengths.{group_length}
 
 -- A group of some bytes has eight bits for each.
@@ -42,6 +42,17 @@ pub digits_left : (kind : ByteDigits) (w digits : ℕ) → w ≡ digit_bits kind
 unfolding group_bytes whole_bytes
 digits_left Binary w digits e n = rw e (simp (ne_eqb (digits % 8) 0 n))
 digits_left Hex w digits e n = rw e (simp (ne_eqb (digits % 2) 0 n))
+
+-- A group of such digits, where none is left.
+pub kind_found : (kind : ByteDigits) (w : ℕ) → w ≡ digit_bits kind → kind ≡ group_kind w
+unfolding group_kind
+kind_found Binary w e = rw e
+kind_found Hex w e = rw e
+
+pub bytes_found : (kind : ByteDigits) (w digits : ℕ) → w ≡ digit_bits kind → digits % digits_per_byte kind ≡ 0 → digits / digits_per_byte kind ≡ group_bytes w digits
+unfolding group_bytes whole_bytes
+bytes_found Binary w digits e n = rw e (simp (eq-eqb (digits % 8) 0 n))
+bytes_found Hex w digits e n = rw e (simp (eq-eqb (digits % 2) 0 n))
 
 -- It is whole bytes in digits.
 group_bytes_lem : (o : FormatListOptions) (kind : ByteDigits) (wide : ℕ) → base_bits o.base ≡ digit_bits kind → o.digits_per_group ≡ wide * digits_per_byte kind

@@ -7,7 +7,7 @@ use Rattle.format_list.specs.declared.ListStrings.{ListStrings}
 use Rattle.format_list.specs.declared.shape.ListOptions.{ListOptions}
 use Rattle.format_list.specs.declared.shape.ListGroups.{ListGroups}
 use Rattle.format_list.specs.List.{group_bits, group_text, between_groups, list_text, bad_list}
-use Rattle.format_list.specs.Bytes.{alike}
+use Rattle.format_list.specs.Bytes.{group_bytes, alike}
 
 -- Whether options and strings are outside their ranges.
 abbrev pub bad_given : FormatListOptions → ListStrings → Bool
@@ -28,6 +28,10 @@ groups_of g n = joined (between_of g.options) (group_of g) n
 -- How many groups hold the image.
 abbrev pub count_of : ListGroups → ℕ
 count_of g = ceil_div g.good.image.len (group_bits g.options.given)
+
+-- How many bytes a group has, 0 where it is not whole bytes.
+abbrev pub bytes_of : ListGroups → ℕ
+bytes_of g = group_bytes g.options.width.bits g.options.given.digits_per_group
 
 -- Groups k to k + n with the first string between them.
 abbrev pub alike_of : ListGroups → ℕ → ℕ → List ℕ

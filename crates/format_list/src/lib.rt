@@ -8,8 +8,8 @@ ghost use Rattle.output.specs.Writes.{Writes};
 ghost use Rattle.outcome.specs.Outcome.{too_long, Exports};
 ghost use Rattle.bases.specs.Base.{base_bits};
 ghost use Rattle.format_list.specs.List.{list_outcome};
-ghost use Rattle.format_list.specs.Bytes.{group_bytes};
-ghost use Rattle.format_list.specs.Groups.{bad_given, between_of, groups_of, count_of, alike_of, list_of};
+ghost use Rattle.format_list.specs.Bytes.{group_kind};
+ghost use Rattle.format_list.specs.Groups.{bad_given, between_of, bytes_of, groups_of, count_of, alike_of, list_of};
 
 use bitvec::{BitOffset, Image, WholeBytes};
 use digit_groups::{DigitGroups, Strings};
@@ -169,7 +169,7 @@ impl<'a> ByteGroups<'a> {
     // The groups of a list, where they are whole bytes of hexadecimal or binary digits.
     #[tactic(auto, using(crate::proofs::Alike::other_digits, crate::proofs::Alike::digits_left))]
     fn new(list: ListGroups<'a>) -> Option<ByteGroups<'a>>
-        ensures { MatchOption result (group_bytes list.entry.options.width.bits list.entry.options.given.digits_per_group ≡ 0) (λ g. g.list ≡ list.entry) }
+        ensures { MatchOption result (bytes_of list.entry ≡ 0) (λ g. (g.list ≡ list.entry) × (g.kind ≡ group_kind list.entry.options.width.bits) × (g.bytes ≡ bytes_of list.entry)) }
     {
         let kind = ByteDigits::with_bits(list.options.width.bits)?;
         let digits = list.options.given.digits_per_group;

@@ -6,7 +6,6 @@ use Prim.Native.Nat.{ℕ, zero, suc, ◌+◌, ◌-◌, ◌*◌, ◌/◌, ◌%◌
 use native.Mathlib.Omega.{arith}
 use native.Mathlib.Nat.{zero-mul, mul-zero, suc-mul, add-suc, add-mul, mul_assoc, mul_comm}
 use lib.Dec.{T}
-use Rattle.std.specs.Int.{div_ceil}
 use lib.ListN.{length, length-append}
 use Rattle.bitvec.specs.Bits.{byte_at}
 use Rattle.bitvec.proofs.Words.{bits_within}
@@ -60,13 +59,6 @@ bytes_next bytes len w m j (suc n) =
     let more : (j + suc n) * m ≡ (j + n) * m + m = omega (arith, suc-mul (j + n) m, ap (λ (x : ℕ). x * m) (add-suc j n)) in
     rw (more, byte_next bytes len w m (j + n), bytes_next bytes len w m j n)
     (append_assoc (pieces (chunk_at bytes len w) (j * m)) (pieces (λ i. byte_chunks bytes len w m (j + i)) n) (byte_chunks bytes len w m (j + n)))
-
--- A line of 16 bytes begins before the end, and all lines reach it.
-pub line_begins : (n k : ℕ) → k < div_ceil n 16 → k * 16 < n
-line_begins n k h = omega (arith, h)
-
-pub lines_reach : (n k : ℕ) → div_ceil n 16 ≤ k → min (k * 16) n ≡ n
-lines_reach n k h = omega (arith, h)
 
 -- A width of which some make a byte, and how many do.
 pub some_bits : (w m : ℕ) → w * m ≡ 8 → 0 < w

@@ -68,6 +68,8 @@ fn breaks(width: usize, count: usize) -> usize
     ensures { (result ≡ breaks width count) × (result ≤ count) }
 {
     let mut total = 0;
+    // Tried: `(0..count).filter(..).count()`, whose proof did not close: the check knows the calls of the
+    // closure, and not that their number is the sum.
     for k in 0..count {
         total += ends_line(k * width + width) as usize;
     }
@@ -180,7 +182,9 @@ fn put_lines<const S: usize>(out: &mut [u8], at: usize, good: GoodImage, lines: 
 }
 
 // Four bits as binary digits with a space behind each, one character in each byte of a word, the first
-// lowest. The mask lets through four bits that are never set, the last of them because of the product's
+// lowest. This and the next two stay three functions: with a width as a parameter the factors and masks
+// are sums of shifts, which are no plainer, and four bits ask for letters too.
+// The mask lets through four bits that are never set, the last of them because of the product's
 // highest term, so that the compiler does not know the spaces and stores the word at once.
 fn spaced_ones(bits: u8) -> u64
     requires { bits < 16 }

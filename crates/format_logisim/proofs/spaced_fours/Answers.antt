@@ -1,8 +1,8 @@
 -- `format_logisim::spaced_fours` meets its contract: computed for each byte.
 -- Assumes nothing.
-use Prim.Native.Nat.{ℕ, ◌+◌, ◌*◌, ◌/◌, ◌%◌, ◌^◌, ◌≤◌}
+use Prim.Native.Nat.{ℕ, ◌+◌, ◌*◌, ◌/◌, ◌%◌, ◌^◌}
 use native.Mathlib.Omega.{arith}
-use lib.Bits.{bit_and, and_le_r}
+use lib.Bits.{bit_and}
 use lib.Dec.{T}
 use Rattle.output.specs.Pieces.{pieces}
 use Rattle.numbers.specs.Digits.{digit_char}
@@ -25,13 +25,6 @@ word b = digits b + 540024880 + letters b * 39
 right : T (all (λ b. same (four_bytes (word b)) (spaced_digits 4 2 b)) 256)
 unfolding lowest_bytes spaced_digits digit_of pieces digit_char
 right = tt
-
--- nothing wraps
-digits_small : (b : ℕ) → digits b ≤ 17760527
-digits_small b = and_le_r ((b / 16 + b % 16 * 65536) * 513) 17760527
-
-letters_small : (b : ℕ) → letters b ≤ 65537
-letters_small b = and_le_r ((digits b + 393222) / 2 ^ 4) 65537
 
 pub returns : goal.returns
 returns c = exhaust (λ b. four_bytes (word b)) (spaced_digits 4 2) 256 right c.args.byte (omega arith)

@@ -23,7 +23,7 @@ pub put-requires-clause-inside : goal.put-requires-clause-inside
 put-requires-clause-inside c =
     let b = c.in-Some.groups in
     let o = b.list.options.given in
-    let count = rw (← c.in-Some.ensures) at c.count-count.ensures.0 in
+    let count = rw (← c.in-Some.ensures.0) at c.count-count.ensures.0 in
     (omega (arith, c.if-count-eq0.false), last_inside b.list.good.image.len (group_bits o) c.count-count.result (group_bits_lem o b.kind b.bytes b.base b.digits) (omega (arith, b.few)) count (omega (arith, c.if-count-eq0.false)))
 
 pub put_groups-requires-clause-room : goal.put_groups-requires-clause-room
