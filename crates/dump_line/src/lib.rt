@@ -131,7 +131,8 @@ fn put_group(out: &mut [u8], at: usize, kind: ByteDigits, bytes: WholeBytes) -> 
     }
 }
 
-// Stores the bytes of a line, which are whole, in digits: groups of four with a space between them.
+// Stores the bytes of a line, which are whole, in digits: groups of four with a space between them. A
+// group is a part of them and no chunk of a slice, since what is promised of it is said of the image.
 fn put_groups(out: &mut [u8], at: usize, kind: ByteDigits, bytes: WholeBytes) -> usize
     requires some { 0 < bytes.count }
     requires room { at + length (digit_column bytes.image.bytes.now bytes.image.len (digit_bits kind) bytes.first bytes.count) ≤ length out.old }

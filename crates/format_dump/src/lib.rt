@@ -133,7 +133,7 @@ pub fn format_dump(image: Image, options: DumpOptions, out: &mut [u8]) -> Export
     Ok(dump.write(out))
 }
 
-// One digit for each bit, 8 bytes a line.
+// One digit for each bit, 8 bytes a line: document 01 has a function for each preset.
 pub fn format_bindump(image: Image, out: &mut [u8]) -> Export
     ensures { Exports (dump_outcome image.entry.bytes.now image.entry.len bindump (length out.old)) result out.old out.new }
 {
