@@ -122,6 +122,7 @@ pub fn format_annotated(
     let image = image.good().ok_or(Refusal::ImageSize)?;
     let options = ListingOptions::new(options).ok_or(Refusal::OptionRange)?;
     let spans = ListedSpans::new(spans).ok_or(Refusal::SpanRange(4096))?;
+    // That the list is in its range is all that is used of it: its numbers are in the columns.
     let list = GoodSpans::new(spans.columns.offsets, spans.columns.sizes)?;
     format_spans(image.image, options, spans, sources, out)
 }

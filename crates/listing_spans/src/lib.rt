@@ -91,6 +91,8 @@ pub fn span_fault(
     None
 }
 
+// A place is below the number of spans, which each function asks: a type of such a place would hold the
+// spans once more.
 impl<'a> ShownSpans<'a> {
     // The excerpt of the span at a place, or none where the span is hidden.
     fn excerpt(self, place: usize) -> Option<&'a [u8]>
