@@ -1,4 +1,5 @@
 // The dump and its presets.
+use crate::images::{BYTE, EMPTY};
 use crate::tell::Tally;
 use bitvec::Image;
 use format_dump::{DumpOptions, format_bindump, format_dump, format_hexdump};
@@ -9,7 +10,7 @@ fn hexdump_row<P: Print>(t: &mut Tally<P>) -> io::Result<()> {
     t.gives(
         "hexdump, 0 bits",
         Ok(b" 0 | .. .. .. ..  .. .. .. ..  .. .. .. ..  .. .. .. .. | ................ |\n"),
-        |out| format_hexdump(Image::new(b"", 0), out),
+        |out| format_hexdump(EMPTY, out),
     )
 }
 
@@ -43,7 +44,7 @@ fn bytes_of_nine_bits<P: Print>(t: &mut Tally<P>) -> io::Result<()> {
     t.gives(
         "refusal 2: a dump of bytes of 9 bits",
         Err(Refusal::OptionRange),
-        |out| format_dump(Image::new(&[0x12], 8), options, out),
+        |out| format_dump(BYTE, options, out),
     )
 }
 

@@ -1,5 +1,6 @@
 // Intel HEX of spans lent as two slices of numbers: rows of document 01's table and what it says in
 // words, the refusals, and records and files that others published.
+use crate::images::{BYTE, EMPTY, TWELVE_BITS, TWO_BYTES};
 use crate::tell::{Expected, Tally};
 use bitvec::Image;
 use intelhex::format_intelhex;
@@ -34,24 +35,6 @@ fn run<P: Print>(t: &mut Tally<P>, examples: &[Example]) -> io::Result<()> {
     }
     Ok(())
 }
-
-const EMPTY: Image = Image { bytes: &[], len: 0 };
-
-const BYTE: Image = Image {
-    bytes: &[0x12],
-    len: 8,
-};
-
-// The last byte has spare bits that are set.
-const TWELVE_BITS: Image = Image {
-    bytes: &[0xab, 0xcf],
-    len: 12,
-};
-
-const TWO_BYTES: Image = Image {
-    bytes: &[0x11, 0x22],
-    len: 16,
-};
 
 // What document 01 says of blocks, records and addresses.
 const ROWS: [Example; 10] = [

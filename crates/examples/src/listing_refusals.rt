@@ -1,9 +1,9 @@
 // The refusals of the annotated listing, in the order of their numbers, for the image and the texts of
 // `listings` but where unequal columns and a bad text are lent.
+use crate::images::BYTE;
 use crate::listings::{ACK, Example, LABELS, NOP, Row, SIXTEEN, list_two, run};
 use crate::tell::{OLD, Tally, gave};
 use annotated::format_annotated;
-use bitvec::Image;
 use listing::{FormatAnnotatedOptions, SpanColumns};
 use ordering::ABSENT;
 use outcome::{Export, Refusal};
@@ -99,7 +99,7 @@ fn options<P: Print>(t: &mut Tally<P>) -> io::Result<()> {
 // The answer for two spans with these sizes and ends, and a byte of 128 in the protocol's text.
 fn list_with(sizes: &[u32], ends: &[u64], out: &mut [u8]) -> Export {
     format_annotated(
-        Image::new(&[0x12], 8),
+        BYTE,
         SpanColumns {
             offsets: &[0, 0],
             sizes,

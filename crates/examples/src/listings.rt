@@ -1,5 +1,6 @@
 // The annotated listing: what it shows, for an image of the bytes 12 34, of two spans where no other
 // number is named. The firmware's text is `nop`, the protocol's `ack`.
+use crate::images::BYTE;
 use crate::tell::{Expected, Tally};
 use annotated::format_annotated;
 use bitvec::Image;
@@ -108,7 +109,7 @@ fn listing_row<P: Print>(t: &mut Tally<P>) -> io::Result<()> {
     t.gives(
         "listing, byte 12, span (0,8)",
         Ok(b" outp | addr | data (base 16)\n\n  0:0 |    0 | 12 ; nop\n"),
-        |out| format_annotated(Image::new(&[0x12], 8), spans, sources, SIXTEEN, out),
+        |out| format_annotated(BYTE, spans, sources, SIXTEEN, out),
     )
 }
 
@@ -128,7 +129,7 @@ fn no_spans<P: Print>(t: &mut Tally<P>) -> io::Result<()> {
     t.gives(
         "listing, no spans: the heading alone",
         Ok(b" outp | addr | data (base 16)\n\n"),
-        |out| format_annotated(Image::new(&[0x12], 8), spans, sources, LABELS, out),
+        |out| format_annotated(BYTE, spans, sources, LABELS, out),
     )
 }
 

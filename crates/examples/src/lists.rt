@@ -1,4 +1,5 @@
 // The lists: bytes with a separator, the array of C, and digits in groups.
+use crate::images::{BYTE, EMPTY, FIVE_BITS, TWELVE_BITS};
 use crate::tell::Tally;
 use bitvec::Image;
 use format_c_array::format_c_array;
@@ -6,8 +7,6 @@ use format_list::{FormatListOptions, ListStrings, format_list};
 use format_separator::format_separator;
 use outcome::Refusal;
 use std::io;
-
-const EMPTY: Image = Image { bytes: &[], len: 0 };
 
 fn c_array_row<P: Print>(t: &mut Tally<P>) -> io::Result<()> {
     let image = Image::new(&[0x12, 0x0f], 16);
@@ -18,17 +17,11 @@ fn c_array_row<P: Print>(t: &mut Tally<P>) -> io::Result<()> {
     )
 }
 
-// The bits abc in groups of two digits, with a string before, after and between them. The last byte
-// has spare bits that are set.
+// Groups of two digits, with a string before, after and between them.
 const PAIRS: FormatListOptions = FormatListOptions {
     base: 16,
     digits_per_group: 2,
     groups_per_group2: 0,
-};
-
-const TWELVE_BITS: Image = Image {
-    bytes: &[0xab, 0xcf],
-    len: 12,
 };
 
 const BRACKETS: ListStrings = ListStrings {
@@ -58,11 +51,10 @@ fn second_string<P: Print>(t: &mut Tally<P>) -> io::Result<()> {
         between: b".",
         between2: b"/",
     };
-    let image = Image::new(&[0b10110111], 5);
     t.gives(
         "list base 2, 1 digit, the second string after each second group",
         Ok(b"1.0/1.1/0"),
-        |out| format_list(image, options, strings, out),
+        |out| format_list(FIVE_BITS, options, strings, out),
     )
 }
 
@@ -89,12 +81,11 @@ fn empty_array<P: Print>(t: &mut Tally<P>) -> io::Result<()> {
 }
 
 fn long_separator<P: Print>(t: &mut Tally<P>) -> io::Result<()> {
-    let image = Image::new(&[0x12], 8);
     let separator = [44; 257];
     t.gives(
         "refusal 2: a separator of 257 bytes",
         Err(Refusal::OptionRange),
-        |out| format_separator(image, 10, &separator, out),
+        |out| format_separator(BYTE, 10, &separator, out),
     )
 }
 

@@ -7,6 +7,7 @@
 
 mod dumps;
 mod hex;
+mod images;
 mod listing_refusals;
 mod listings;
 mod lists;

@@ -1,16 +1,10 @@
 // The memory files of hardware tools: the memory initialization file and the image of Logisim.
+use crate::images::{BYTE, EMPTY};
 use crate::tell::Tally;
-use bitvec::Image;
 use format_logisim::format_logisim;
 use format_mif::format_mif;
 use outcome::Refusal;
 use std::io;
-
-// The byte 12.
-const BYTE: Image = Image {
-    bytes: &[0x12],
-    len: 8,
-};
 
 fn mif_row<P: Print>(t: &mut Tally<P>) -> io::Result<()> {
     t.gives(
@@ -29,11 +23,10 @@ fn logisim_row<P: Print>(t: &mut Tally<P>) -> io::Result<()> {
 }
 
 fn refusals<P: Print>(t: &mut Tally<P>) -> io::Result<()> {
-    let empty = Image::new(b"", 0);
     t.gives(
         "refusal 4: MIF of an empty image",
         Err(Refusal::EmptyImage),
-        |out| format_mif(empty, out),
+        |out| format_mif(EMPTY, out),
     )?;
     t.gives(
         "refusal 2: Logisim chunk 0",

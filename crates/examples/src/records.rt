@@ -1,6 +1,7 @@
 // Intel HEX, the listing and the blocks of span records, which are lent as a slice: rows of document
 // 01, an offset that only the numbers of the core take for absent, and lists that are too long. The
 // image is the bytes 11 22, and of the listing the byte 12.
+use crate::images::{BYTE, TWO_BYTES};
 use crate::listings::SIXTEEN;
 use crate::tell::{Expected, Tally};
 use bitvec::Image;
@@ -45,11 +46,6 @@ const PAST_THE_END: Span = Span {
     offset: Some(16777216),
     size: 8,
     ..BARE
-};
-
-const TWO_BYTES: Image = Image {
-    bytes: &[0x11, 0x22],
-    len: 16,
 };
 
 // Tells whether the export of the records gives what is expected, with units of 8 bits.
@@ -138,7 +134,6 @@ fn lists<P: Print>(
     spans: &[Span],
     expected: Expected,
 ) -> io::Result<()> {
-    let image = Image::new(&[0x12], 8);
     let sources = Sources {
         firmware: b"nop",
         protocol: b"",
@@ -146,7 +141,7 @@ fn lists<P: Print>(
     t.gives(
         name,
         expected,
-        |out| format_annotated(image, spans, sources, SIXTEEN, out),
+        |out| format_annotated(BYTE, spans, sources, SIXTEEN, out),
     )
 }
 

@@ -155,7 +155,8 @@ impl Listing {
     }
 }
 
-// The call that a line stands for.
+// The call that a line stands for. A match: each exporter takes options of its own, so that a closure
+// for each kind would name them as well, and be no plainer.
 pub(crate) fn export(
     alloc: Global,
     kind: Kind,
