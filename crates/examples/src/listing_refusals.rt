@@ -7,11 +7,8 @@ use annotated::format_annotated;
 use listing::{FormatAnnotatedOptions, SpanColumns};
 use ordering::ABSENT;
 use outcome::{Export, Refusal};
-use sources::Sources;
+use sources::{NO_LOCATION, Sources};
 use std::io;
-
-// The start and the end of no location.
-const NO_LOCATION: u64 = 18446744073709551615;
 
 // A label switch that is neither on nor off.
 const NO_SWITCH: FormatAnnotatedOptions = FormatAnnotatedOptions {
