@@ -16,17 +16,6 @@ one_base P base b bits rest here there = go (eqb base b) refl
     go true e = here (eqb-true base b e)
     go false e = there
 
-pub base_small : (base : ℕ) → base_bits base ≤ 5
-unfolding base_bits
-base_small base =
-    let P : ℕ → Type 0 = λ n. n ≤ 5 in
-    one_base P base 2 1 _ (λ e. omega arith)
-    (one_base P base 4 2 _ (λ e. omega arith)
-    (one_base P base 8 3 _ (λ e. omega arith)
-    (one_base P base 16 4 _ (λ e. omega arith)
-    (one_base P base 32 5 _ (λ e. omega arith)
-    (omega arith)))))
-
 -- A base is the number of digits that its bits make.
 pub base_digits : (base : ℕ) → 1 ≤ base_bits base → 2 ^ base_bits base ≡ base
 unfolding base_bits

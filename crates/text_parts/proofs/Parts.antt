@@ -159,12 +159,6 @@ pub parts_of_pieces : (f : ℕ → List ℕ) (m n : ℕ) (rest tail : List ℕ) 
 unfolding parts_text
 parts_of_pieces f m n rest tail e = pieces_equal _ _ n (λ k h. ap (λ (t : List ℕ). t ++ tail) (pieces_cut f m n rest e k h))
 
--- So is one at the start of an array.
-pub parts_written : (l : List ℕ) (f : ℕ → List ℕ) (m n : ℕ) (tail : List ℕ) → ((i : ℕ) → i < n → length (f i) ≡ m) → n * m ≤ length l
-    → parts_text (sets l 0 (pieces f n)) m tail n ≡ pieces (λ k. f k ++ tail) n
-parts_written l f m n tail e h =
-    rw (front l (pieces f n) (omega (arith, pieces_length f m n e))) (parts_of_pieces f m n (drop (length (pieces f n)) l) tail e)
-
 -- Pieces counted in rows of m.
 pub pieces_nested : (f : ℕ → List ℕ) (m n : ℕ) → pieces f (n * m) ≡ pieces (λ k. pieces (λ j. f (k * m + j)) m) n
 unfolding pieces
