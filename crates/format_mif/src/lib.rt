@@ -64,7 +64,7 @@ struct Mif<'a> {
 
 impl<'a> Mif<'a> {
     // The length of its text.
-    #[tactic(auto, using(crate::proofs::Lengths::counts_few))]
+    #[tactic(auto, using(crate::proofs::Lengths::counts_below))]
     fn length(self) -> usize
         ensures { result ≡ length (mif_text self.entry.bytes.image.bytes.now self.entry.bytes.image.len) }
     {

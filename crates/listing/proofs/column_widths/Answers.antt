@@ -3,7 +3,7 @@
 use native.Mathlib.Omega.{arith}
 use Rattle.listing.specs.Listing.{narrowest, widths_of}
 use mathlib.Core.Path.{sym, ◌∙◌}
-use Rattle.listing.proofs.Columns.{widths_absent, widths_present}
+use Rattle.listing.proofs.Columns.{widths_absent, widths_there}
 use Rattle.listing.proofs.column_widths.Goals.{in-Some, in_default}
 use Rattle.listing.proofs.column_widths.Goals as goal
 
@@ -21,7 +21,7 @@ loop-p-preserved c =
       | in-Some w ↦
           let r = w.wider-widths.ensures in
           rw w.widths-is (
-            r.widths ∙ rw n.0 (sym (widths_present a.options.given a.spans.offsets.now a.spans.sizes.now a.addrs.now l.p _ (sym c.offset_of.ensures ∙ w.in-Some.is))),
+            r.widths ∙ rw n.0 (sym (widths_there a.options.given a.spans.offsets.now a.spans.sizes.now a.addrs.now l.p _ (sym c.offset_of.ensures ∙ w.in-Some.is))),
             omega (arith, r.position, n),
             omega (arith, r.position, n),
             omega (arith, r.others, n),
