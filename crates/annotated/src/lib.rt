@@ -15,7 +15,7 @@ use listing::{FormatAnnotatedOptions, Layout, ListedSpans, ListingOptions, SpanC
 use listing_spans::ShownSpans;
 use outcome::{Export, Refusal};
 use sources::Sources;
-use span_range::GoodSpans;
+use span_range::{GoodSpans, MAX_SPANS};
 
 // What a listing shows, where each refusal but refusal 8 is ruled out: at most 4,096 spans, none of them
 // with a fault, and short texts.
@@ -121,7 +121,7 @@ pub fn format_annotated(
 {
     let image = image.good().ok_or(Refusal::ImageSize)?;
     let options = ListingOptions::new(options).ok_or(Refusal::OptionRange)?;
-    let spans = ListedSpans::new(spans).ok_or(Refusal::SpanRange(4096))?;
+    let spans = ListedSpans::new(spans).ok_or(Refusal::SpanRange(MAX_SPANS))?;
     // That the list is in its range is all that is used of it: its numbers are in the columns.
     let list = GoodSpans::new(spans.columns.offsets, spans.columns.sizes)?;
     format_spans(image.image, options, spans, sources, out)

@@ -6,6 +6,7 @@
 #![tactic(auto)]
 
 ghost use Rattle.std.specs.Prelude.{◌≡◌, ◌≢◌, [], ◌≤◌, ◌<◌, length};
+ghost use Rattle.bitvec.specs.Size.{ceil_div};
 ghost use Rattle.ordering.specs.Order.{in_order};
 ghost use Rattle.adjoining.specs.Adjoin.{Adjoin};
 ghost use Rattle.blocks.specs.Blocks.{closed, blocks_of, blocks_found, Stores, Finds};
@@ -15,11 +16,20 @@ use ordering::{ABSENT, SpanList};
 use outcome::Refusal;
 use span_range::GoodSpans;
 
-// A block: so many bits from an offset on.
+// A block: the offset of its first bit, and how many bits it has.
 #[derive(Clone, Copy)]
-struct Block {
-    offset: u32,
-    size: u32,
+pub struct Block {
+    pub offset: u32,
+    pub size: u32,
+}
+
+impl Block {
+    // How many bytes it has, counted up to whole ones from its own start.
+    pub fn bytes(self) -> usize
+        ensures { result ≡ ceil_div self.size 8 }
+    {
+        bitvec::parts(self.size as usize, 8)
+    }
 }
 
 // Closes a block: it is stored behind the others, unless its size is 0.

@@ -9,7 +9,8 @@ ghost use Rattle.hex_records.specs.Text.{hex_text};
 ghost use Rattle.hex_records.specs.Lent.{records_of, plan_of};
 
 use bitvec::{BitOffset, parts};
-use hex_records::{AddressUnit, Block, HexPlan, LowPlan};
+use blocks::Block;
+use hex_records::{AddressUnit, HexPlan, LowPlan, records};
 use span_range::joined;
 
 // The highest address that a record can have.
@@ -37,7 +38,7 @@ pub fn hex_length(sizes: &[u32]) -> usize
 fn block_high(block: Block, unit: AddressUnit) -> bool
     ensures { result ≡ too_high (records_of block unit) }
 {
-    let Some(last) = block.records().checked_sub(1) else {
+    let Some(last) = records(block).checked_sub(1) else {
         return false;
     };
     let from = BitOffset::from(block.offset).plus(256 * last);

@@ -2,7 +2,7 @@
 use Rattle.std.specs.Prelude.{List}
 use Rattle.blocks.specs.Blocks.{Block}
 use Rattle.hex_records.specs.declared.layout.AddressUnit.{AddressUnit}
-use Rattle.hex_records.specs.declared.layout.Block.{Block as Lent}
+use Rattle.blocks.specs.declared.Block.{Block as Lent}
 use Rattle.hex_records.specs.declared.layout.HexPlan.{HexPlan}
 use Rattle.hex_records.specs.declared.layout.DataRecord.{DataRecord}
 use Rattle.hex_records.specs.Plan.{Chunk, block_plan, hex_plan, blocks_at}

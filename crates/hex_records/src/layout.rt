@@ -1,9 +1,10 @@
-// What is to be written: blocks, and the records that they are cut into.
+// What is to be written: the blocks of a file, and the records that they are cut into.
 ghost use Rattle.std.specs.Prelude.{◌≡◌, true, false, ◌+◌, ◌*◌, ◌/◌, ◌%◌, ◌≤◌, ◌<◌, ◌^◌, [], ◌∷◌, MatchOption};
 ghost use Rattle.bitvec.specs.Size.{ceil_div};
 ghost use Rattle.outcome.specs.Outcome.{outside};
 
 use bitvec::{BitOffset, UnitAddress, parts};
+use blocks::Block;
 use ordering::SpanList;
 use outcome::outside;
 
@@ -27,28 +28,12 @@ impl AddressUnit {
     }
 }
 
-// A block: the offset of its first bit, and how many bits it has.
-#[derive(Clone, Copy)]
-pub struct Block {
-    pub offset: u32,
-    pub size: u32,
-}
-
-impl Block {
-    // How many bytes it has, counted up to whole ones from its own start.
-    pub fn bytes(self) -> usize
-        ensures { result ≡ ceil_div self.size 8 }
-    {
-        parts(self.size as usize, 8)
-    }
-
-    // How many records it has, of 32 bytes each, the last one shorter.
-    #[tactic(auto, using(bitvec::proofs::Size::ceil_most))]
-    pub fn records(self) -> usize
-        ensures { result ≡ ceil_div (ceil_div self.size 8) 32 }
-    {
-        parts(self.bytes(), 32)
-    }
+// How many records a block has, of 32 bytes each, the last one shorter.
+#[tactic(auto, using(bitvec::proofs::Size::ceil_most))]
+pub fn records(block: Block) -> usize
+    ensures { result ≡ ceil_div (ceil_div block.size 8) 32 }
+{
+    parts(block.bytes(), 32)
 }
 
 // The blocks of a file, and the unit of its addresses.

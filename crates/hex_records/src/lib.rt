@@ -19,7 +19,7 @@ use output::put;
 mod layout;
 mod low;
 
-pub use layout::{AddressUnit, Block, DataRecord, HexPlan};
+pub use layout::{AddressUnit, DataRecord, HexPlan, records};
 pub use low::LowPlan;
 
 // How both digits of a byte are written.

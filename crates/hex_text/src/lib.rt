@@ -16,8 +16,9 @@ ghost use Rattle.hex_records.specs.Lent.{block_of, records_of, plan_of, chunk_of
 ghost use Rattle.hex_text.specs.Single.{Pairs};
 
 use bitvec::{BitOffset, Image, UnitAddress};
+use blocks::Block;
 use hex_records::{
-    AddressUnit, Block, DataRecord, HexPlan, LowPlan, PutByte, head_sum, put_head, put_record,
+    AddressUnit, DataRecord, HexPlan, LowPlan, PutByte, head_sum, put_head, put_record, records,
 };
 use output::{put, put_all};
 
@@ -148,7 +149,7 @@ fn put_records(image: Image, block: LowBlock, out: &mut [u8], at: usize) -> usiz
 {
     let mut next = at;
     // The loop counts, since a record is made from its number.
-    for n in 0..block.block.records() {
+    for n in 0..records(block.block) {
         next = put_record(image, block.record(n), out, next);
     }
     next

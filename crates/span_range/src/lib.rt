@@ -10,6 +10,10 @@ use bitvec::MAX_BITS;
 use ordering::{ABSENT, SpanList};
 use outcome::Refusal;
 
+// How many spans a list has at most. Document 01 returns this number for a list that is long, or whose
+// slices are not of one length.
+pub const MAX_SPANS: usize = 4096;
+
 // Half of the largest image: where no offset and no size is as large, no span ends behind the image.
 const HALF_LIMIT: u32 = 8388608;
 
@@ -23,15 +27,15 @@ pub struct GoodSpans<'a> {
 }
 
 impl<'a> GoodSpans<'a> {
-    // The lent spans, where they are in their range, or refusal 3. Its place is that of the first bad
-    // span, or 4,096, which document 01 returns for a list that is long or of unequal slices.
+    // The lent spans, where they are in their range, or refusal 3: its place is that of the first bad
+    // span, or the number of a long list.
     #[tactic(auto, unfolding(crate::specs::Range::long_list))]
     pub fn new(offsets: &'a [u32], sizes: &'a [u32]) -> Result<GoodSpans<'a>, Refusal>
         ensures { MatchResult result (λ s. (s.list.offsets.now ≡ offsets.now) × (s.list.sizes.now ≡ sizes.now)) (λ e. IsCause offsets.now sizes.now e) }
     {
         let list = match SpanList::new(offsets, sizes) {
-            Some(list) if list.len() <= 4096 => list,
-            _ => return Err(Refusal::SpanRange(4096)),
+            Some(list) if list.len() <= MAX_SPANS => list,
+            _ => return Err(Refusal::SpanRange(MAX_SPANS)),
         };
         match fault_at(list) {
             Some(place) => Err(Refusal::SpanRange(place)),

@@ -1,6 +1,6 @@
 -- `hex_text::single_check` meets its contract: what makes the sum 0 modulo 256.
 -- Assumes nothing.
-use Rattle.std.proofs.Common.{ℕ, ◌+◌, ◌-◌, ◌/◌, ◌%◌, List, [], ◌∷◌, arith}
+use Rattle.std.proofs.Common.{ℕ, ◌+◌, ◌-◌, ◌/◌, ◌%◌, [], ◌∷◌, arith}
 use Rattle.hex_records.specs.Text.{total}
 use Rattle.hex_records.proofs.Text.{checksum_is}
 use Rattle.hex_text.proofs.single_check.Goals as goal
