@@ -94,6 +94,12 @@ pub hex_alike : (radix b : ℕ) → (radix ≡ 10 → ⊥) → byte_in radix b �
 unfolding byte_in
 hex_alike radix b h = simp (ne_eqb radix 10 h) refl
 
+-- So is the list of all bytes.
+pub list_alike : (radix : ℕ) (s : List ℕ) (line : ℕ → List ℕ) (bytes : List ℕ) (len : ℕ) → (radix ≡ 10 → ⊥)
+    → byte_list radix s line bytes len ≡ byte_list 16 s line bytes len
+unfolding byte_list byte_in
+list_alike radix s line bytes len h = simp (ne_eqb radix 10 h) refl
+
 -- The list: its bytes and what stands between them, where all lines start with texts of one length.
 pub list_length : (radix : ℕ) (s : List ℕ) (line : ℕ → List ℕ) (bytes : List ℕ) (len start : ℕ)
     → ((k : ℕ) → k < ceil_div len 8 → length (line k) ≡ start)

@@ -2,15 +2,19 @@
 -- Assumes nothing.
 use mathlib.Core.Path.{◌≡◌, refl, sym, ap, ◌∙◌}
 use mathlib.Core.List.{List, [], ◌∷◌, ◌++◌, map}
-use Prim.Native.Nat.{ℕ, zero, suc, ◌+◌, ◌<◌}
+use Prim.Native.Nat.{ℕ, zero, suc, ◌+◌, ◌<◌, min}
 use native.Mathlib.Numerals.{add-one}
 use native.Mathlib.Nat.{zero-add, add-zero, add-suc, suc-add, not-suc-le-zero, le_of_suc-le-suc}
 use native.Mathlib.Omega.{arith}
-use lib.ListN.{length, get_or, take, set, length-replicate}
-use lib.Seq.{sets, length-take-le, take-suc}
+use lib.ListN.{length, get_or, take, set, length-replicate, length-take}
+use lib.Seq.{sets, length-take-le, take-suc, take_all, take-take}
 use Rattle.std.specs.Prelude.{None}
+use Rattle.ordering.proofs.Lists.{map_length}
 use Rattle.spans.specs.declared.Span.{Span}
-use Rattle.spans.specs.Copies.{zeros}
+use Rattle.spans.specs.declared.columns.Columns.{Columns}
+use Rattle.spans.specs.declared.columns.ListingColumns.{ListingColumns}
+use Rattle.spans.specs.Copies.{zeros, column, ColumnsOf, ListingColumnsOf}
+use Rattle.spans.specs.Spans.{offset_number, start_number, end_number, offsets_of, sizes_of, addrs_of, files_of, starts_of, ends_of}
 
 -- The record that stands past the end of a list.
 abbrev pub no_span : Span
@@ -50,3 +54,41 @@ copied_in w l xs i d h =
     ap (set (sets l 0 (take i m)) i) (at_record w xs i d)
     ∙ one_more l (take i m) i (get_or m i (w d)) (sym (length-take-le i m (omega arith)))
     ∙ ap (sets l 0) (sym (take-suc m i (w d) h) ∙ ap (λ (k : ℕ). take k m) (sym (add-one i)))
+
+-- As many of a list as it has are all of it.
+take_most : {A : Type 0} (l : List A) (k n : ℕ) → length l ≡ n → take (min k n) l ≡ take k l
+take_most l k n e = sym (take-take (min k n) k l (omega arith)) ∙ take_all (min k n) (take k l) (omega (arith, length-take k l))
+
+-- All are copied.
+all_copied : (w : Span → ℕ) (xs : List Span) → sets zeros 0 (take (min (length xs) 4097) (map w xs)) ≡ column (map w xs)
+unfolding column
+all_copied w xs =
+    let e : min (length xs) 4097 ≡ min 4097 (length xs) = omega arith in
+    ap (λ (k : ℕ). sets zeros 0 (take k (map w xs))) e ∙ ap (sets zeros 0) (take_most (map w xs) 4097 (length xs) (map_length w xs))
+
+-- Columns with a number of each record, as many as there is room for, are those of the records.
+pub columns_is : (xs : List Span) (c : Columns)
+    → c.offsets ≡ sets zeros 0 (take (min (length xs) 4097) (offsets_of xs))
+    → c.sizes ≡ sets zeros 0 (take (min (length xs) 4097) (sizes_of xs))
+    → c.count ≡ min (length xs) 4097
+    → ColumnsOf xs c
+columns_is xs c offsets sizes count = record {
+  offsets = offsets ∙ all_copied (λ s. offset_number s.offset) xs;
+  sizes = sizes ∙ all_copied (λ s. s.size) xs;
+  count = count;
+}
+
+pub listing_columns_is : (xs : List Span) (c : ListingColumns)
+    → c.addrs ≡ sets zeros 0 (take (min (length xs) 4097) (addrs_of xs))
+    → c.files ≡ sets zeros 0 (take (min (length xs) 4097) (files_of xs))
+    → c.starts ≡ sets zeros 0 (take (min (length xs) 4097) (starts_of xs))
+    → c.ends ≡ sets zeros 0 (take (min (length xs) 4097) (ends_of xs))
+    → c.count ≡ min (length xs) 4097
+    → ListingColumnsOf xs c
+listing_columns_is xs c addrs files starts ends count = record {
+  addrs = addrs ∙ all_copied (λ s. s.addr) xs;
+  files = files ∙ all_copied (λ s. s.file_handle) xs;
+  starts = starts ∙ all_copied (λ s. start_number s.location) xs;
+  ends = ends ∙ all_copied (λ s. end_number s.location) xs;
+  count = count;
+}
