@@ -132,14 +132,12 @@ fn address_of(from: BitOffset, unit: AddressUnit) -> UnitAddress
 fn single_byte(image: Image, block: Block) -> Option<u8>
     ensures { IfSome result (λ byte. (0 < block.size) × (block.size ≤ 8) × (byte ≡ bits_at image.entry.bytes.now image.entry.len block.offset 8)) }
 {
-    let from = BitOffset::from(block.offset);
     if !(1..=8).contains(&block.size) {
         return None;
     }
-    if image.len < from.0 + 8 || image.bytes.len() <= from.byte() + 1 {
-        return None;
-    }
-    Some(image.read_across(from.byte(), from.shift(), 8))
+    let from = BitOffset::from(block.offset);
+    let byte = image.first_across(from, 1)?;
+    Some(image.read_across(byte, from.shift(), 8))
 }
 
 // Writes the records of a block.
@@ -155,7 +153,8 @@ fn put_records(image: Image, block: LowBlock, out: &mut [u8], at: usize) -> usiz
     next
 }
 
-// The same; a block of one byte is written with the digits of all bytes where they are lent.
+// The same; a block of one byte is written with the digits of all bytes where they are lent. An Option,
+// since one loop serves both: with a type for each, `put_blocks` would stand twice.
 fn put_block(
     image: Image,
     block: LowBlock,
