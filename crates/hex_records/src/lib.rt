@@ -38,26 +38,25 @@ impl PutByte for Computed {
     }
 }
 
-// Writes `count` bytes of the image from `from` on, and adds them to `sum`, modulo 256. `byte_at` reads
-// them: byte 0 is the one at `from`. The loop counts, since `byte_at` is asked by number.
+// Writes the data of a record, and adds them to `sum`, modulo 256. `byte_at` reads them: byte 0 is the first
+// one. The loop counts, since `byte_at` is asked by number.
 fn put_bytes<F: Fn(usize) -> u8>(
     image: Image,
-    from: BitOffset,
-    count: usize,
+    data_record: DataRecord,
     byte_at: F,
     sum: u8,
     out: &mut [u8],
     at: usize,
 ) -> u8
-    requires read { (k : ℕ) → k < count → F.pre byte_at k }
-    requires bytes { (k byte : ℕ) → k < count → F.post byte_at k byte → byte ≡ bits_at image.bytes.now image.len (from.0 + 8 * k) 8 }
-    requires room { at + 2 * count ≤ length out.old }
-    ensures sum { result ≡ (sum + total (bytes_from image.entry.bytes.now image.entry.len from.0 count)) % 256 }
-    ensures stored { out.new ≡ sets out.old at (hex_bytes (bytes_from image.entry.bytes.now image.entry.len from.0 count)) }
+    requires read { (k : ℕ) → k < data_record.count → F.pre byte_at k }
+    requires bytes { (k byte : ℕ) → k < data_record.count → F.post byte_at k byte → byte ≡ bits_at image.bytes.now image.len (data_record.from.0 + 8 * k) 8 }
+    requires room { at + 2 * data_record.count ≤ length out.old }
+    ensures sum { result ≡ (sum + total (bytes_from image.entry.bytes.now image.entry.len data_record.from.0 data_record.count)) % 256 }
+    ensures stored { out.new ≡ sets out.old at (hex_bytes (bytes_from image.entry.bytes.now image.entry.len data_record.from.0 data_record.count)) }
 {
     let mut added = sum;
     let mut next = at;
-    for k in 0..count {
+    for k in 0..data_record.count {
         let byte = byte_at(k);
         next = put_byte(out, next, Letters::Upper, byte);
         added = added.wrapping_add(byte);
@@ -85,14 +84,14 @@ fn put_data(image: Image, data_record: DataRecord, sum: u8, out: &mut [u8], at: 
     let DataRecord { from, count, .. } = data_record;
     if let Some(bytes) = whole_data(image, data_record) {
         let whole = |k: usize| bytes.byte(k);
-        return put_bytes(image, from, count, whole, sum, out, at);
+        return put_bytes(image, data_record, whole, sum, out, at);
     }
     if let Some(first) = image.first_across(from, count) {
         let across = |k: usize| image.read_across(first + k, from.shift(), 8);
-        return put_bytes(image, from, count, across, sum, out, at);
+        return put_bytes(image, data_record, across, sum, out, at);
     }
     let any = |k: usize| image.read_byte(from.plus(8 * k));
-    put_bytes(image, from, count, any, sum, out, at)
+    put_bytes(image, data_record, any, sum, out, at)
 }
 
 // The sum, modulo 256, of the three bytes before a record's data that are not always zero.
