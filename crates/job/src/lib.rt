@@ -30,8 +30,8 @@ fn read_number(job: &[u8], at: usize) -> u32
     u32::from_le_bytes(*job[at..].first_chunk().unwrap())
 }
 
-// Reads one number of each row of a table into `to`, which has a place for each row. By places: a zip
-// with `iter_mut` is a call that the borrow checker does not cover.
+// Reads one number of each row of a table into `to`, which has a place for each row. By places.
+// Tried: a zip of `iter_mut` with the rows, through which no proof knows what is written.
 fn read_column(rows: &[u8], at: usize, to: &mut [u32])
     requires { at + 8 * length to.old ≤ length rows.now + 4 }
     ensures { to.new ≡ column rows.now at (length to.old) }
