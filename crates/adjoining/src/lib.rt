@@ -37,7 +37,7 @@ fn tested(spans: SpanList<'_>) -> bool
 }
 
 // The same. That spans which adjoin are found to is left free: a wrong no costs time alone. A bool, since
-// a yes says all: the block is then that from the first offset to the last end.
+// `blocks`, which stands on this, makes the block: it reads the first offset and the last end once more.
 pub fn all_adjoin(spans: SpanList<'_>) -> bool
     ensures { result ≡ true → Adjoin spans.entry.offsets.now spans.entry.sizes.now }
 {

@@ -3,7 +3,7 @@
 // bytes. The Rust's BitVec holds its length; here both are lent, as one value.
 #![tactic(auto)]
 
-ghost use Rattle.std.specs.Prelude.{◌≡◌, true, false, MatchOption, ◌+◌, ◌*◌, ◌/◌, ◌%◌, ◌≤◌, ◌<◌, ◌^◌, min, length, take, drop};
+ghost use Rattle.std.specs.Prelude.{◌≡◌, true, false, MatchOption, ◌+◌, ◌*◌, ◌/◌, ◌%◌, ◌≤◌, ◌<◌, ◌^◌, min, length, take, drop, IfSome};
 ghost use Rattle.bitvec.specs.Bits.{bit_at, bits_at, byte_at};
 ghost use Rattle.bitvec.specs.Size.{bad_size, ceil_div};
 
@@ -108,6 +108,36 @@ impl<'a> Image<'a> {
         self.bytes.len().min(self.len / 8)
     }
 
+    // Its `count` bytes from byte `first` on, where all of them are whole.
+    #[inline(always)]
+    pub fn whole(self, first: usize, count: usize) -> Option<WholeBytes<'a>>
+        requires { first + count < 2 ^ 61 }
+        ensures { MatchOption result (min (self.entry.len / 8) (length self.entry.bytes.now) < first + count) (λ w. (w.image ≡ self.entry) × (w.first ≡ first) × (w.count ≡ count)) }
+    {
+        if self.len < (first + count) * 8 || self.bytes.len() < first + count {
+            return None;
+        }
+        Some(WholeBytes {
+            image: self,
+            first,
+            count,
+        })
+    }
+
+    // The byte that holds bit `from`, where `count` bytes from that bit on and the byte behind them are in
+    // the image.
+    #[inline(always)]
+    pub fn first_across(self, from: BitOffset, count: usize) -> Option<usize>
+        requires { from.0 + 8 * count < 2 ^ 64 }
+        ensures { IfSome result (λ first. (first ≡ from.0 / 8) × ((first + count) * 8 + from.0 % 8 ≤ self.entry.len) × (first + count < length self.entry.bytes.now)) }
+    {
+        let first = from.byte();
+        if self.len < from.0 + 8 * count || self.bytes.len() <= first + count {
+            return None;
+        }
+        Some(first)
+    }
+
     // The bit at `offset`, 0 or 1.
     #[tactic(auto, using(crate::proofs::Bits::bit_past, crate::proofs::Bits::bit_inside))]
     pub fn read_bit(self, offset: BitOffset) -> u8
@@ -136,7 +166,8 @@ impl<'a> Image<'a> {
     }
 
     // The digit that `width` bits make behind the first `shift` bits of byte `at`, where they are
-    // within the bit length and the byte behind is there.
+    // within the bit length and the byte behind is there. Byte and shift are apart: a loop adds to the
+    // byte alone, and finds the shift once.
     #[tactic(auto, using(crate::proofs::Words::bits_across))]
     pub fn read_across(self, at: usize, shift: usize, width: usize) -> u8
         requires inside { (at * 8 + shift + width ≤ self.len) × (at + 1 < length self.bytes.now) }

@@ -30,7 +30,7 @@ impl<'a> DigitRun<'a> {
     }
 
     // The whole bytes that it begins with, at most `most`, where it begins with a byte of the image or
-    // at its end.
+    // at its end. As many as are whole: `Image::whole` has none where one of them is not.
     pub fn whole(self, most: usize) -> Option<WholeBytes<'a>>
         ensures { IfSome result (λ b. (b.image ≡ self.entry.image) × (b.first * 8 ≡ self.entry.from.0) × (b.count ≤ most)) }
     {

@@ -32,14 +32,7 @@ impl<'a> DumpLine<'a> {
     fn whole(self) -> Option<WholeBytes<'a>>
         ensures { MatchOption result (self.entry.image.len < (self.entry.first + self.entry.count) * 8) (λ b. (b.image ≡ self.entry.image) × (b.first ≡ self.entry.first) × (b.count ≡ self.entry.count)) }
     {
-        if self.image.len < (self.first + self.count) * 8 {
-            return None;
-        }
-        Some(WholeBytes {
-            image: self.image,
-            first: self.first,
-            count: self.count,
-        })
+        self.image.whole(self.first, self.count)
     }
 }
 

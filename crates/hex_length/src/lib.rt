@@ -16,7 +16,8 @@ use span_range::joined;
 // The highest address that a record can have.
 const MAX_ADDRESS: usize = 65535;
 
-// The length of the records of a block: 12 characters for each, and 2 for each byte.
+// The length of the records of a block: 12 characters for each, and 2 for each byte. Of the size alone: a
+// length has no offset, which a `Block` would ask for.
 #[tactic(auto, using(bitvec::proofs::Size::ceil_most))]
 fn block_length(size: u32) -> usize
     ensures { result ≡ 12 * ceil_div (ceil_div size 8) 32 + 2 * ceil_div size 8 }

@@ -38,26 +38,25 @@ impl PutByte for Computed {
     }
 }
 
-// Writes `count` bytes of the image from `from` on, and adds them to `sum`, modulo 256. `byte_at` reads
-// them: byte 0 is the one at `from`. The loop counts, since `byte_at` is asked by number.
+// Writes the data of a record, and adds them to `sum`, modulo 256. `byte_at` reads them: byte 0 is the first
+// one. The loop counts, since `byte_at` is asked by number.
 fn put_bytes<F: Fn(usize) -> u8>(
     image: Image,
-    from: BitOffset,
-    count: usize,
+    data_record: DataRecord,
     byte_at: F,
     sum: u8,
     out: &mut [u8],
     at: usize,
 ) -> u8
-    requires read { (k : ℕ) → k < count → F.pre byte_at k }
-    requires bytes { (k byte : ℕ) → k < count → F.post byte_at k byte → byte ≡ bits_at image.bytes.now image.len (from.0 + 8 * k) 8 }
-    requires room { at + 2 * count ≤ length out.old }
-    ensures sum { result ≡ (sum + total (bytes_from image.entry.bytes.now image.entry.len from.0 count)) % 256 }
-    ensures stored { out.new ≡ sets out.old at (hex_bytes (bytes_from image.entry.bytes.now image.entry.len from.0 count)) }
+    requires read { (k : ℕ) → k < data_record.count → F.pre byte_at k }
+    requires bytes { (k byte : ℕ) → k < data_record.count → F.post byte_at k byte → byte ≡ bits_at image.bytes.now image.len (data_record.from.0 + 8 * k) 8 }
+    requires room { at + 2 * data_record.count ≤ length out.old }
+    ensures sum { result ≡ (sum + total (bytes_from image.entry.bytes.now image.entry.len data_record.from.0 data_record.count)) % 256 }
+    ensures stored { out.new ≡ sets out.old at (hex_bytes (bytes_from image.entry.bytes.now image.entry.len data_record.from.0 data_record.count)) }
 {
     let mut added = sum;
     let mut next = at;
-    for k in 0..count {
+    for k in 0..data_record.count {
         let byte = byte_at(k);
         next = put_byte(out, next, Letters::Upper, byte);
         added = added.wrapping_add(byte);
@@ -65,51 +64,34 @@ fn put_bytes<F: Fn(usize) -> u8>(
     added
 }
 
-// The `count` bytes from `from` on, where they are whole bytes of the image.
-fn whole_bytes<'a>(image: Image<'a>, from: BitOffset, count: usize) -> Option<WholeBytes<'a>>
-    requires { from.0 + 8 * count + 8 < 2 ^ 64 }
-    ensures { IfSome result (λ w. (w.image ≡ image.entry) × (w.first * 8 ≡ from.0) × (w.count ≡ count)) }
+// The data of a record, where they are whole bytes of the image.
+fn whole_data<'a>(image: Image<'a>, data_record: DataRecord) -> Option<WholeBytes<'a>>
+    ensures { IfSome result (λ w. (w.image ≡ image.entry) × (w.first * 8 ≡ data_record.from.0) × (w.count ≡ data_record.count)) }
 {
-    let first = from.byte();
-    if from.shift() != 0 || image.whole_bytes() < first + count {
+    let DataRecord { from, count, .. } = data_record;
+    if from.shift() != 0 {
         return None;
     }
-    Some(WholeBytes {
-        image,
-        first,
-        count,
-    })
+    image.whole(from.byte(), count)
 }
 
-// The byte of the image that holds bit `from`, where `count` bytes from there on and the byte behind
-// them are in the image.
-fn first_byte(image: Image, from: BitOffset, count: usize) -> Option<usize>
-    requires { from.0 + 8 * count + 8 < 2 ^ 64 }
-    ensures { IfSome result (λ first. (first ≡ from.0 / 8) × ((first + count) * 8 + from.0 % 8 ≤ image.entry.len) × (first + count < length image.entry.bytes.now)) }
+// Writes the data of a record, and adds them to `sum`, modulo 256.
+fn put_data(image: Image, data_record: DataRecord, sum: u8, out: &mut [u8], at: usize) -> u8
+    requires { at + 2 * data_record.count ≤ length out.old }
+    ensures sum { result ≡ (sum + total (bytes_from image.entry.bytes.now image.entry.len data_record.from.0 data_record.count)) % 256 }
+    ensures stored { out.new ≡ sets out.old at (hex_bytes (bytes_from image.entry.bytes.now image.entry.len data_record.from.0 data_record.count)) }
 {
-    let first = from.byte();
-    if image.len < from.0 + 8 * count || image.bytes.len() <= first + count {
-        return None;
-    }
-    Some(first)
-}
-
-// Writes `count` bytes of the image from `from` on, and adds them to `sum`, modulo 256.
-fn put_data(image: Image, from: BitOffset, count: usize, sum: u8, out: &mut [u8], at: usize) -> u8
-    requires { (from.0 + 8 * count + 8 < 2 ^ 64) × (at + 2 * count ≤ length out.old) }
-    ensures sum { result ≡ (sum + total (bytes_from image.entry.bytes.now image.entry.len from.0 count)) % 256 }
-    ensures stored { out.new ≡ sets out.old at (hex_bytes (bytes_from image.entry.bytes.now image.entry.len from.0 count)) }
-{
-    if let Some(bytes) = whole_bytes(image, from, count) {
+    let DataRecord { from, count, .. } = data_record;
+    if let Some(bytes) = whole_data(image, data_record) {
         let whole = |k: usize| bytes.byte(k);
-        return put_bytes(image, from, count, whole, sum, out, at);
+        return put_bytes(image, data_record, whole, sum, out, at);
     }
-    if let Some(first) = first_byte(image, from, count) {
+    if let Some(first) = image.first_across(from, count) {
         let across = |k: usize| image.read_across(first + k, from.shift(), 8);
-        return put_bytes(image, from, count, across, sum, out, at);
+        return put_bytes(image, data_record, across, sum, out, at);
     }
     let any = |k: usize| image.read_byte(from.plus(8 * k));
-    put_bytes(image, from, count, any, sum, out, at)
+    put_bytes(image, data_record, any, sum, out, at)
 }
 
 // The sum, modulo 256, of the three bytes before a record's data that are not always zero.
@@ -143,10 +125,9 @@ pub fn put_record(image: Image, data_record: DataRecord, out: &mut [u8], at: usi
     requires { at + (12 + 2 * data_record.count) ≤ length out.old }
     ensures { Writes (record_text image.entry.bytes.now image.entry.len (chunk_of data_record)) out.old at out.new result }
 {
-    let DataRecord { from, count, .. } = data_record;
     let data = put_head(&Computed, data_record, out, at);
-    let sum = put_data(image, from, count, head_sum(data_record), out, data);
+    let sum = put_data(image, data_record, head_sum(data_record), out, data);
     let check = 0u8.wrapping_sub(sum);
-    let end = put_byte(out, data + 2 * count, Letters::Upper, check);
+    let end = put_byte(out, data + 2 * data_record.count, Letters::Upper, check);
     put(out, end, b'\n')
 }

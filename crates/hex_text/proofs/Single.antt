@@ -34,6 +34,15 @@ one_chunk : (unit : ℕ) (b : Block) → block_bytes b ≡ 1 → block_plan unit
 unfolding block_plan table ceil_div
 one_chunk unit b e = rw e
 
+-- Such a block has a record.
+pub first_record : (size : ℕ) → 0 < size → size ≤ 8 → 0 < ceil_div (ceil_div size 8) 32
+unfolding ceil_div
+first_record size p q = omega arith
+
+-- The first record of such a block is the only one.
+pub only_chunk : (unit : ℕ) (b : Block) → 0 < b.size → b.size ≤ 8 → chunk_at unit b 0 ≡ single unit b
+only_chunk unit b p q = first_chunk unit b (one_byte b p q)
+
 pub block_single : (unit : ℕ) (b : Block) → 0 < b.size → b.size ≤ 8 → block_plan unit b ≡ single unit b ∷ []
 block_single unit b p q =
     let e = one_byte b p q in

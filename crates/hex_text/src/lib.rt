@@ -20,19 +20,21 @@ use blocks::Block;
 use hex_records::{
     AddressUnit, DataRecord, HexPlan, LowPlan, PutByte, head_sum, put_head, put_record, records,
 };
+use numbers::{Letters, digit_char};
 use output::{put, put_all};
 
-// For as many blocks the digits of all bytes are stored first.
+// For as many blocks the digits of all bytes are stored first, once for them all: for fewer ones that
+// takes longer than it saves.
 const MANY: usize = 64;
 
 // Both digits of a byte.
+#[tactic(auto, unfolding(numbers::specs::Digits::byte_text))]
 fn pair(byte: u8) -> [u8; 2]
     ensures { result ≡ byte_text Upper byte }
 {
-    let byte = byte as u16;
-    let values = ((byte << 8) | (byte >> 4)) & 0xf0f;
-    let letters = ((values + 0x606) >> 4) & 0x101;
-    (values + 0x3030 + letters * 7).to_le_bytes()
+    let first = digit_char(Letters::Upper, byte / 16);
+    let second = digit_char(Letters::Upper, byte % 16);
+    [first, second]
 }
 
 // The checksum of a record whose data is this byte.
@@ -81,6 +83,16 @@ impl Digits {
     }
 }
 
+// The address of a bit. Units of 8 bits, the most frequent ones, ask for no division by a variable.
+fn address_of(from: BitOffset, unit: AddressUnit) -> UnitAddress
+    ensures { result.0 ≡ from.0 / unit.bits }
+{
+    if unit.bits == 8 {
+        return from.address(8);
+    }
+    from.address(unit.bits)
+}
+
 // A block whose records have addresses of at most 65,535.
 #[derive(Clone, Copy)]
 struct LowBlock {
@@ -99,7 +111,7 @@ impl LowBlock {
         let from = BitOffset::from(self.block.offset).plus(256 * n);
         DataRecord {
             from,
-            address: from.address(self.unit.bits),
+            address: address_of(from, self.unit),
             count: (self.block.bytes() - 32 * n).min(32),
         }
     }
@@ -109,37 +121,20 @@ impl LowBlock {
         requires { (0 < self.block.size) × (self.block.size ≤ 8) }
         ensures { (records_of self.block self.unit ≡ chunk_of result ∷ []) × (result.count ≡ 1) × (result.from.0 ≡ self.block.offset) }
     {
-        let from = BitOffset::from(self.block.offset);
-        DataRecord {
-            from,
-            address: address_of(from, self.unit),
-            count: 1,
-        }
+        self.record(0)
     }
-}
-
-// The address of a bit: that of a unit of 8 bits needs no division.
-fn address_of(from: BitOffset, unit: AddressUnit) -> UnitAddress
-    ensures { result.0 ≡ from.0 / unit.bits }
-{
-    if unit.bits == 8 {
-        return from.address(8);
-    }
-    from.address(unit.bits)
 }
 
 // The byte of a block of one byte, where it and a byte behind it are in the image.
 fn single_byte(image: Image, block: Block) -> Option<u8>
     ensures { IfSome result (λ byte. (0 < block.size) × (block.size ≤ 8) × (byte ≡ bits_at image.entry.bytes.now image.entry.len block.offset 8)) }
 {
-    let from = BitOffset::from(block.offset);
     if !(1..=8).contains(&block.size) {
         return None;
     }
-    if image.len < from.0 + 8 || image.bytes.len() <= from.byte() + 1 {
-        return None;
-    }
-    Some(image.read_across(from.byte(), from.shift(), 8))
+    let from = BitOffset::from(block.offset);
+    let byte = image.first_across(from, 1)?;
+    Some(image.read_across(byte, from.shift(), 8))
 }
 
 // Writes the records of a block.
@@ -155,7 +150,8 @@ fn put_records(image: Image, block: LowBlock, out: &mut [u8], at: usize) -> usiz
     next
 }
 
-// The same; a block of one byte is written with the digits of all bytes where they are lent.
+// The same; a block of one byte is written with the digits of all bytes where they are lent. An Option,
+// since one loop serves both: with a type for each, `put_blocks` would stand twice.
 fn put_block(
     image: Image,
     block: LowBlock,

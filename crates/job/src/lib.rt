@@ -23,21 +23,21 @@ const MAX_ROWS: usize = 8192;
 const NO_JOB: u32 = 9;
 
 // The little-endian 32-bit number at a place.
-fn read_word(job: &[u8], at: usize) -> u32
+fn read_number(job: &[u8], at: usize) -> u32
     requires { at + 4 ≤ length job.now }
     ensures { result ≡ word job.now at }
 {
     u32::from_le_bytes(*job[at..].first_chunk().unwrap())
 }
 
-// Reads one number of each row of a table into `to`, which has a place for each row. The loop counts,
-// since a number is read at a place, 8 bytes behind the one before.
+// Reads one number of each row of a table into `to`, which has a place for each row. By places.
+// Tried: a zip of `iter_mut` with the rows, through which no proof knows what is written.
 fn read_column(rows: &[u8], at: usize, to: &mut [u32])
     requires { at + 8 * length to.old ≤ length rows.now + 4 }
     ensures { to.new ≡ column rows.now at (length to.old) }
 {
     for (k, number) in to.iter_mut().enumerate() {
-        *number = read_word(rows, at + 8 * k);
+        *number = read_number(rows, at + 8 * k);
     }
 }
 
@@ -59,11 +59,11 @@ impl<'a> Job<'a> {
         if MAX_BYTES < n || n < 20 {
             return None;
         }
-        let len = read_word(job, 0) as usize;
-        let from = read_word(job, 4) as usize;
-        let count = read_word(job, 8) as usize;
-        let table = read_word(job, 12) as usize;
-        let unit = read_word(job, 16) as usize;
+        let len = read_number(job, 0) as usize;
+        let from = read_number(job, 4) as usize;
+        let count = read_number(job, 8) as usize;
+        let table = read_number(job, 12) as usize;
+        let unit = read_number(job, 16) as usize;
         let bytes = job.get(from..from + parts(len, 8))?;
         let rows = job.get(table..table + 8 * count)?;
         Some(Job {
@@ -73,14 +73,14 @@ impl<'a> Job<'a> {
         })
     }
 
-    // Exports a job of at most N rows.
-    fn export<const N: usize>(self, out: &mut [u8]) -> Export
-        requires { (length self.rows.now ≤ 8 * N) × (N ≤ 8192) }
+    // Exports a job. Two arrays, as `format_intelhex` takes the columns, and no heap.
+    fn export(self, out: &mut [u8]) -> Export
+        requires { length self.rows.now ≤ 65536 }
         ensures { let rows = self.entry.rows.now in let count = length rows / 8 in Exports (hex_outcome self.entry.image.bytes.now self.entry.image.len (column rows 0 count) (column rows 4 count) self.entry.unit (length out.old)) result out.old out.new }
     {
         let count = self.rows.len() / 8;
-        let mut offsets = [0; N];
-        let mut sizes = [0; N];
+        let mut offsets = [0; MAX_ROWS];
+        let mut sizes = [0; MAX_ROWS];
         read_column(self.rows, 0, &mut offsets[..count]);
         read_column(self.rows, 4, &mut sizes[..count]);
         format_intelhex(
@@ -113,7 +113,7 @@ pub fn run_job(job: &[u8], out: &mut [u8; 65536]) -> usize
     let Some(job) = Job::read(job) else {
         return put_refused(NO_JOB, out);
     };
-    match job.export::<MAX_ROWS>(out) {
+    match job.export(out) {
         Ok(length) => length,
         Err(refusal) => put_refused(Answer::from(refusal).number, out),
     }

@@ -247,16 +247,10 @@ impl<'a> DigitPairs<'a> {
         ensures { IfSome result (λ p. (p.image ≡ image.entry) × (p.first * 8 + p.shift ≡ from.0) × (p.before * 2 + p.last ≡ count)) }
     {
         let before = count.checked_sub(1)? / 2;
-        let first = from.byte();
-        let shift = from.shift();
-        let end = first + before;
-        if image.len < end * 8 + shift + 8 || image.bytes.len() <= end + 1 {
-            return None;
-        }
         Some(DigitPairs {
             image,
-            first,
-            shift,
+            first: image.first_across(from, before + 1)?,
+            shift: from.shift(),
             before,
             last: count - before * 2,
         })

@@ -12,7 +12,7 @@ pub loop-k-init : goal.loop-k-init
 unfolding total
 loop-k-init g c =
     let a = c.args in
-    let none = bytes_none a.image.bytes.now a.image.len a.from.0 in
+    let none = bytes_none a.image.bytes.now a.image.len a.data_record.from.0 in
     (omega arith, rw none (omega arith), rw (none, hex_none) (writes_nothing a.out.now a.at))
 
 pub loop-k-preserved : goal.loop-k-preserved
@@ -21,8 +21,8 @@ loop-k-preserved g c =
     let l = c.loop-k in
     let a = c.args in
     let byte = c.byte_at-byte.result in
-    let done = bytes_from a.image.bytes.now a.image.len a.from.0 l.k in
-    let next = bytes_next a.image.bytes.now a.image.len a.from.0 l.k in
+    let done = bytes_from a.image.bytes.now a.image.len a.data_record.from.0 l.k in
+    let next = bytes_next a.image.bytes.now a.image.len a.data_record.from.0 l.k in
     let read = c.requires.bytes l.k byte c.loop-k-test.true c.byte_at-byte.ensures in (
       omega (arith, c.put_byte-next.ensures.next),
       rw (next, ← read, total_append done (byte ∷ [])) (omega (arith, l.invariant.1)),

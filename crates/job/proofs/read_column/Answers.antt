@@ -20,7 +20,7 @@ loop-k-preserved c =
     let a = c.args in
     let f : ℕ → ℕ = λ k. word a.rows.now (a.at + 8 * k) in (
       search rules,
-      rw (l.invariant.1, c.read_word.ensures, table_next f l.k) (sets_more a.to.now (table f l.k) l.k (f l.k) (sym (table_length f l.k))),
+      rw (l.invariant.1, c.read_number.ensures, table_next f l.k) (sets_more a.to.now (table f l.k) l.k (f l.k) (sym (table_length f l.k))),
       search rules,
     )
 

@@ -11,7 +11,7 @@ unfolding job_outcome
 returns-in_default-clause-printed c = rw c.in_default.ensures c.put_refused.ensures.printed
 
 pub export-requires : goal.export-requires
-export-requires c = (rw c.in-Some.ensures.3 (few_rows c.args.job.now c.in-Some.ensures.0), omega arith)
+export-requires c = rw c.in-Some.ensures.3 (few_rows c.args.job.now c.in-Some.ensures.0)
 
 pub returns-in-Ok-clause-printed : goal.returns-in-Ok-clause-printed
 returns-in-Ok-clause-printed c =

@@ -22,7 +22,7 @@ invariant_of-result c =
     let size : b.block.size < 2 ^ 32 = search rules in
     let offset : b.block.offset < 2 ^ 32 = search rules in
     record {
-      low = rw (c.address.ensures, c.plus-from.ensures, c.from.ensures) low;
+      low = rw (c.address_of.ensures, c.plus-from.ensures, c.from.ensures) low;
       few = omega (arith, c.min.ensures);
       near = omega (arith, within c.args.self.block.size c.args.n c.requires, size, offset, c.plus-from.ensures, c.from.ensures, c.min.ensures);
     }
@@ -31,4 +31,4 @@ pub returns : goal.returns
 unfolding chunk_at
 returns c =
     let held : c.min.result ≡ min 32 (c.bytes.result - 32 * c.args.n) = omega (arith, c.min.ensures) in
-    rw (c.address.ensures, c.plus-from.ensures, c.from.ensures, held, c.bytes.ensures)
+    rw (c.address_of.ensures, c.plus-from.ensures, c.from.ensures, held, c.bytes.ensures)

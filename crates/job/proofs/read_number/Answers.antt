@@ -1,9 +1,9 @@
--- `job::read_word` meets its contract: the chunk's bytes, the first lowest, are four bytes of the job.
+-- `job::read_number` meets its contract: the chunk's bytes, the first lowest, are four bytes of the job.
 -- Assumes nothing.
 use Rattle.std.proofs.Common.{◌≡◌, ◌+◌, ◌-◌, ◌<◌, ℕ, arith, ◌∙◌, refl, length, take, drop, get_or, slice_index, get_or-take}
 use Rattle.job.specs.Job.{word}
 use Rattle.job.proofs.Good.{byte_in}
-use Rattle.job.proofs.read_word.Goals as goal
+use Rattle.job.proofs.read_number.Goals as goal
 
 pub returns : goal.returns
 unfolding word
