@@ -61,7 +61,8 @@ fn put_cut(
     next
 }
 
-// Stores `count` groups from group `k` on, whose digits have places in one array.
+// Stores `count` groups from group `k` on, whose digits have places in one array. Groups and strings are
+// two values, here and below: `digit_lines` has groups without strings.
 fn put_block(
     out: &mut [u8],
     at: usize,
