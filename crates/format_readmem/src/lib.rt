@@ -10,6 +10,7 @@ ghost use Rattle.format_readmem.specs.Readmem.{line_text, readmem_text, readmem_
 ghost use Rattle.format_readmem.specs.Runs.{line_of, lines_of, Runs};
 
 use bitvec::{BitOffset, Image, WholeBytes};
+use digit_lines::DigitGroups;
 use image_parts::{ImageParts, PutPart};
 use numbers::DigitWidth;
 use outcome::{Export, Refusal};
@@ -89,9 +90,12 @@ impl<'a> Lines<'a> {
     {
         let image = self.parts.good.image;
         let whole = image.len / self.parts.width;
-        let size = self.parts.width / digit.bits;
-        let from = BitOffset(0);
-        let next = digit_lines::put_lines(out, 0, image, digit, from, size, b'\n', whole);
+        let groups = DigitGroups {
+            image,
+            width: digit,
+            size: self.parts.width / digit.bits,
+        };
+        let next = digit_lines::put_lines(out, 0, groups, BitOffset(0), b'\n', whole);
         image_parts::put_parts(out, next, self.parts, whole, &self)
     }
 
