@@ -60,7 +60,8 @@ pub struct ByteLines<'a> {
     pub separator: &'a [u8],
 }
 
-// Stores a byte in a radix.
+// Stores a byte in a radix. The choice is made for each byte: to make it once, each radix would be a type
+// with a trait and its law, and be no plainer.
 #[tactic(auto, using(byte_list::proofs::Lengths::decimal_length, byte_list::proofs::Lengths::hex_length, output::proofs::Writes::writes_length))]
 fn put_byte_in(out: &mut [u8], at: usize, radix: ByteRadix, byte: u8) -> usize
     requires { at + length (byte_in (radix_number radix) byte) ≤ length out.old }

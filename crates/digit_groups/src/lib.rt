@@ -61,7 +61,8 @@ fn put_cut(
     next
 }
 
-// Stores `count` groups from group `k` on, whose digits have places in one array.
+// Stores `count` groups from group `k` on, whose digits have places in one array. Groups and strings are
+// two values, here and below: `digit_lines` has groups without strings.
 fn put_block(
     out: &mut [u8],
     at: usize,
@@ -91,7 +92,7 @@ fn put_blocks(
     requires room { at + length (joined (strings_of strings) (groups_of groups) count) ≤ length out.old }
     ensures { Writes (joined (strings_of strings.entry) (groups_of groups.entry) count) out.old at out.new result }
 {
-    let most = digit_lines::block_lines(groups.size);
+    let most = groups.block_lines();
     let mut next = at;
     // The first group of a block is computed with.
     for k in (0..count).step_by(most) {

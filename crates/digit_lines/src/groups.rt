@@ -2,6 +2,7 @@
 
 ghost use Rattle.std.specs.Prelude.{◌≡◌, ◌+◌, ◌*◌, ◌≤◌, ◌<◌, ◌^◌, take};
 ghost use Rattle.digits.specs.Run.{run};
+ghost use Rattle.digit_lines.specs.Lines.{block_lines};
 
 use bitvec::{BitOffset, Image};
 use numbers::DigitWidth;
@@ -16,6 +17,18 @@ pub struct DigitGroups<'a> {
 }
 
 impl<'a> DigitGroups<'a> {
+    // How many groups a block has: eight or a multiple where they have places, so that the next block
+    // starts with a byte if this one does.
+    pub fn block_lines(self) -> usize
+        ensures { (0 < result) × (result * self.entry.size ≤ 1024) × (result ≡ block_lines self.entry.size) }
+    {
+        let most = 1024 / self.size;
+        if most < 8 {
+            return most;
+        }
+        most - most % 8
+    }
+
     // The digits of `count` groups, from `from` on, at the start of an array, which is made where it
     // is used.
     #[inline(always)]

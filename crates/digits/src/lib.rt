@@ -105,7 +105,8 @@ fn put_aligned(
     put_each(out, next, digits.behind(bytes.count * kind.per_byte()))
 }
 
-// Stores `count` digits of `width`, from `from` on.
+// Stores `count` digits of `width`, from `from` on. It takes the parts of a run and not the run: its
+// callers have them apart, and would make one at each call.
 pub fn put_run(
     out: &mut [u8],
     at: usize,

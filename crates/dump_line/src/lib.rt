@@ -125,7 +125,7 @@ fn put_group(out: &mut [u8], at: usize, kind: ByteDigits, bytes: WholeBytes) -> 
 }
 
 // Stores the bytes of a line, which are whole, in digits: groups of four with a space between them. A
-// group is a part of them and no chunk of a slice, since what is promised of it is said of the image.
+// group is a part of them: `rows` takes bytes of an image, which a chunk of a slice is not.
 fn put_groups(out: &mut [u8], at: usize, kind: ByteDigits, bytes: WholeBytes) -> usize
     requires some { 0 < bytes.count }
     requires room { at + length (digit_column bytes.image.bytes.now bytes.image.len (digit_bits kind) bytes.first bytes.count) ≤ length out.old }
@@ -152,8 +152,8 @@ fn put_digits(out: &mut [u8], at: usize, line: DumpLine) -> usize
     }
 }
 
-// Stores the bytes of a line as characters. It asks for each byte where the image ends, and stays a loop
-// of its own: over a slice, as `put_whole_chars` is, it is no plainer.
+// Stores the bytes of a line as characters. By numbers: a byte may be past the end, where no slice has
+// it.
 fn put_char_column(out: &mut [u8], at: usize, line: DumpLine) -> usize
     requires { at + line.count ≤ length out.old }
     ensures { Writes (char_column line.entry.image.bytes.now line.entry.image.len line.entry.first line.entry.count) out.old at out.new result }

@@ -56,7 +56,7 @@ fn bad_list(options: FormatListOptions, strings: ListStrings) -> bool
 {
     outcome::outside(1, 64, options.digits_per_group)
         || 65535 < options.groups_per_group2
-        || strings.between2.len() != 0 && options.groups_per_group2 == 0
+        || !strings.between2.is_empty() && options.groups_per_group2 == 0
         || strings.too_long()
 }
 
@@ -81,10 +81,8 @@ impl<'a> ListOptions<'a> {
     fn every(self) -> Option<usize>
         ensures { MatchOption result (length self.entry.strings.between2.now ≡ 0) (λ n. (n ≡ self.entry.given.groups_per_group2) × (0 < length self.entry.strings.between2.now)) }
     {
-        if self.strings.between2.is_empty() {
-            return None;
-        }
-        Some(self.given.groups_per_group2)
+        let second = !self.strings.between2.is_empty();
+        second.then_some(self.given.groups_per_group2)
     }
 
     // The same of `count` groups: all, where there is no second string.
@@ -182,7 +180,8 @@ impl<'a> ByteGroups<'a> {
     }
 
     // Stores `count` groups from group `k` on with the first string between them. All but the last are
-    // whole bytes of the image.
+    // whole bytes of the image. This and the next two ask for a count above 0: no NonZero, since it is a
+    // difference in `put`, and would be made one at each call.
     fn put_alike(self, out: &mut [u8], at: usize, k: usize, count: usize) -> usize
         requires inside { (0 < count) × ((k + (count - 1)) * (self.bytes * 8) ≤ self.list.good.image.len) }
         requires room { at + length (alike_of self.list k (count - 1)) ≤ length out.old }

@@ -162,7 +162,7 @@ fn put_sixteen<const S: usize>(out: &mut [u8], at: usize, bytes: WholeBytes) -> 
 }
 
 // Stores `lines` lines of 16 whole bytes of the image, in chunks of S bytes each. The bytes of a line
-// are named by its number, since they are no slice but a part of the image.
+// are named by its number: `rows` takes bytes of an image, which a chunk of a slice is not.
 fn put_lines<const S: usize>(out: &mut [u8], at: usize, good: GoodImage, lines: usize) -> usize
     requires inside { (0 < S) × (0 < 16 / S) × (S * (16 / S) ≡ 16) × (lines * 128 ≤ good.image.len) }
     requires room { at + length (pieces (chunk_at good.image.bytes.now good.image.len (S * 8)) (lines * (16 / S))) ≤ length out.old }
@@ -290,6 +290,7 @@ impl<'a, const W: usize> ShortChunks<'a, W> {
     {
         let count = self.good.image.len / 8;
         let mut next = at;
+        // The first byte of a line is computed with.
         for j in (0..count).step_by(16) {
             let size = (count - j).min(16);
             next = self.put_line(out, next, j, size);
@@ -299,18 +300,12 @@ impl<'a, const W: usize> ShortChunks<'a, W> {
 }
 
 // Chunks of 1 to 4,096 bits in hexadecimal.
-#[tactic(auto, using(outcome::proofs::Outcome::inside, outcome::proofs::Outcome::exports_text, outcome::proofs::Outcome::exports_no_room), unfolding(crate::specs::Logisim::logisim_outcome))]
+#[tactic(auto, using(outcome::proofs::Outcome::exports_text, outcome::proofs::Outcome::exports_no_room), unfolding(crate::specs::Logisim::logisim_outcome))]
 pub fn format_logisim(image: Image, bits_per_chunk: usize, out: &mut [u8]) -> Export
     ensures { Exports (logisim_outcome image.entry.bytes.now image.entry.len bits_per_chunk (length out.old)) result out.old out.new }
 {
     let good = image.good().ok_or(Refusal::ImageSize)?;
-    if outcome::outside(1, 4096, bits_per_chunk) {
-        return Err(Refusal::OptionRange);
-    }
-    let parts = ImageParts {
-        good,
-        width: bits_per_chunk,
-    };
+    let parts = ImageParts::new(good, bits_per_chunk).ok_or(Refusal::OptionRange)?;
     let chunks = Chunks { parts };
     let needed = chunks.length();
     if out.len() < needed {

@@ -16,7 +16,7 @@ use numbers::{Letters, Radix};
 use outcome::{Export, Refusal};
 
 // What the lines of sixteen bytes start with, whose addresses differ in the last digit alone: the first
-// `width` of these characters.
+// `width` of these characters. Fixed memory, with a length, since the width goes by the image.
 #[derive(Clone, Copy)]
 struct LineHead {
     chars: [u8; 8],
@@ -96,6 +96,7 @@ impl<'a> Mif<'a> {
     {
         let count = self.bytes.count;
         let mut next = at;
+        // The first byte of a line is computed with.
         for first in (0..count).step_by(16) {
             let lines = (count - first).min(16);
             next = self.put_row(out, next, first / 16, lines);

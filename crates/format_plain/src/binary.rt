@@ -19,7 +19,7 @@ pub struct Binary {
     pub padded: bool,
 }
 
-// Stores bytes as they stand.
+// Stores bytes as they stand. A function for its promise, in which the proofs of its caller speak.
 fn put_whole(bytes: &[u8], out: &mut [u8]) -> usize
     requires { length bytes.now ≤ length out.old }
     ensures { Writes (pieces (λ k. byte_at bytes.now (8 * length bytes.now) k ∷ []) (length bytes.now)) out.old 0 out.new result }

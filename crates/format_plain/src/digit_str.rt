@@ -7,7 +7,8 @@ use bitvec::{BitOffset, Image};
 use numbers::DigitWidth;
 use outcome::{Export, Refusal};
 
-// Digits of 1 to 5 bits, the last one filled with zeros.
+// Digits of 1 to 5 bits, the last one filled with zeros. The range is tested here: a `DigitWidth` may
+// have no bits, so that its maker would have another range.
 #[tactic(auto, using(bitvec::proofs::Size::ceil_reach, outcome::proofs::Outcome::inside, outcome::proofs::Outcome::exports_text, outcome::proofs::Outcome::exports_no_room, crate::proofs::Lengths::str_length), unfolding(crate::specs::Str::str_outcome, crate::specs::Str::str_text))]
 pub fn format_str(image: Image, bits_per_digit: usize, out: &mut [u8]) -> Export
     ensures { Exports (str_outcome image.entry.bytes.now image.entry.len bits_per_digit (length out.old)) result out.old out.new }

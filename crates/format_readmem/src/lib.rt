@@ -10,6 +10,7 @@ ghost use Rattle.format_readmem.specs.Readmem.{line_text, readmem_text, readmem_
 ghost use Rattle.format_readmem.specs.Runs.{line_of, lines_of, Runs};
 
 use bitvec::{BitOffset, Image, WholeBytes};
+use digit_lines::DigitGroups;
 use image_parts::{ImageParts, PutPart};
 use numbers::DigitWidth;
 use outcome::{Export, Refusal};
@@ -47,7 +48,8 @@ impl<'a> Lines<'a> {
         image_parts::parts_length(len, width, full, last)
     }
 
-    // Stores the digits of a line of `count` bits from `from` on.
+    // Stores the digits of a line of `count` bits from `from` on. A choice for each line: a type for each
+    // kind would want a `PutPart` of its own, and be no plainer.
     #[tactic(auto, using(crate::proofs::Lengths::digits_parts), unfolding(bitvec::specs::Size::ceil_div, crate::specs::Readmem::line_text))]
     fn put_digits(self, out: &mut [u8], at: usize, from: BitOffset, count: usize) -> usize
         requires { (from.0 + count < 2 ^ 64) × (at + length (line_text self.kind self.parts.good.image.bytes.now self.parts.good.image.len from.0 count) ≤ length out.old) }
@@ -88,9 +90,12 @@ impl<'a> Lines<'a> {
     {
         let image = self.parts.good.image;
         let whole = image.len / self.parts.width;
-        let size = self.parts.width / digit.bits;
-        let from = BitOffset(0);
-        let next = digit_lines::put_lines(out, 0, image, digit, from, size, b'\n', whole);
+        let groups = DigitGroups {
+            image,
+            width: digit,
+            size: self.parts.width / digit.bits,
+        };
+        let next = digit_lines::put_lines(out, 0, groups, BitOffset(0), b'\n', whole);
         image_parts::put_parts(out, next, self.parts, whole, &self)
     }
 
@@ -143,15 +148,12 @@ fn digit_width(kind: ByteDigits, width: usize) -> Option<DigitWidth>
 }
 
 // The file of one kind: a digit for each bit, or hexadecimal digits.
-#[tactic(auto, using(outcome::proofs::Outcome::inside, outcome::proofs::Outcome::exports_text, outcome::proofs::Outcome::exports_no_room), unfolding(crate::specs::Readmem::readmem_outcome))]
+#[tactic(auto, using(outcome::proofs::Outcome::exports_text, outcome::proofs::Outcome::exports_no_room), unfolding(crate::specs::Readmem::readmem_outcome))]
 fn format_readmem(kind: ByteDigits, image: Image, width: usize, out: &mut [u8]) -> Export
     ensures { Exports (readmem_outcome kind image.entry.bytes.now image.entry.len width (length out.old)) result out.old out.new }
 {
     let good = image.good().ok_or(Refusal::ImageSize)?;
-    if outcome::outside(1, 4096, width) {
-        return Err(Refusal::OptionRange);
-    }
-    let parts = ImageParts { good, width };
+    let parts = ImageParts::new(good, width).ok_or(Refusal::OptionRange)?;
     let lines = Lines { kind, parts };
     let needed = lines.length();
     if out.len() < needed {

@@ -1,4 +1,6 @@
-// Lines in hexadecimal whose first digit may be short. A line of few bits is cut out of one word.
+// Lines in hexadecimal whose first digit may be short. A line of few bits is cut out of one word. Image,
+// first bit and count are three values: a part of an image is handed to its writer as the last two, and
+// the writer has the image.
 #![tactic(auto)]
 
 ghost use Rattle.std.specs.Prelude.{◌≡◌, ◌+◌, ◌/◌, ◌≤◌, ◌<◌, ◌^◌, IfSome, min, length};

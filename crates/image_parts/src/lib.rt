@@ -1,12 +1,14 @@
 // An image cut into parts of one width, the last one perhaps shorter.
 #![tactic(auto)]
 
-ghost use Rattle.std.specs.Prelude.{◌≡◌, List, ℕ, cond, ◌+◌, ◌-◌, ◌*◌, ◌/◌, ◌%◌, ◌≤◌, ◌<◌, ◌^◌, eqb, length};
+ghost use Rattle.std.specs.Prelude.{◌≡◌, true, false, MatchOption, List, ℕ, cond, ◌+◌, ◌-◌, ◌*◌, ◌/◌, ◌%◌, ◌≤◌, ◌<◌, ◌^◌, eqb, length};
 ghost use Rattle.bitvec.specs.Size.{ceil_div};
 ghost use Rattle.output.specs.Writes.{Writes};
+ghost use Rattle.outcome.specs.Outcome.{outside};
 ghost use Rattle.image_parts.specs.Parts.{parts_from};
 
 use bitvec::{BitOffset, GoodImage};
+use outcome::outside;
 
 // An image and the width of its parts, in bits.
 #[derive(Clone, Copy)]
@@ -28,6 +30,17 @@ pub trait PutPart {
 }
 
 impl<'a> ImageParts<'a> {
+    // The parts of an export, of 1 to 4,096 bits each.
+    #[tactic(auto, using(outcome::proofs::Outcome::inside))]
+    pub fn new(good: GoodImage<'a>, width: usize) -> Option<ImageParts<'a>>
+        ensures { MatchOption result (outside 1 4096 width ≡ true) (λ p. (p.good ≡ good.entry) × (p.width ≡ width) × (outside 1 4096 width ≡ false)) }
+    {
+        if outside(1, 4096, width) {
+            return None;
+        }
+        Some(ImageParts { good, width })
+    }
+
     // How many parts there are.
     pub fn count(self) -> usize
         ensures { result ≡ ceil_div self.entry.good.image.len self.entry.width }
@@ -36,8 +49,7 @@ impl<'a> ImageParts<'a> {
     }
 }
 
-// Stores the parts from part `first` on. The number of a part is multiplied, so that no iterator
-// counts it.
+// Stores the parts from part `first` on. The offset of a part is computed from its number.
 pub fn put_parts<P: PutPart>(
     out: &mut [u8],
     at: usize,

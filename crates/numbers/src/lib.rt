@@ -80,7 +80,8 @@ pub fn put_byte(out: &mut [u8], at: usize, letters: Letters, byte: u8) -> usize
     put(out, next, digit_char(letters, byte % 16))
 }
 
-// How many decimal digits a byte has.
+// How many decimal digits a byte has. Beside `digit_count`, which divides in a loop: by comparisons the
+// compiler counts many bytes at once.
 #[tactic(auto, using(crate::proofs::Digits::count_last, crate::proofs::Decimal::count_two, crate::proofs::Decimal::count_three))]
 pub fn decimal_count(byte: u8) -> usize
     ensures { result ≡ digit_count 10 byte }
@@ -119,7 +120,9 @@ pub fn digit_count(value: u64, radix: u64) -> usize
 }
 
 // Stores a number so that it ends before `end`, and answers where it begins. The last digit is found
-// first, so the digits are stored from the back; the loop goes by what is left of the number.
+// first, so the digits are stored from the back; the loop goes by what is left of the number. Letters,
+// value and radix are apart: at most callers two of them are constants, and a struct would be made for
+// each call.
 #[tactic(auto, using(crate::proofs::Digits::smaller, crate::proofs::Digits::remainder_small))]
 fn put_before(out: &mut [u8], end: usize, letters: Letters, value: u64, radix: Radix) -> usize
     requires { (digit_count radix.value value ≤ end) × (end ≤ length out.old) }
@@ -131,7 +134,7 @@ fn put_before(out: &mut [u8], end: usize, letters: Letters, value: u64, radix: R
         place -= 1;
         let digit = (rest % radix.value) as u8;
         out[place] = digit_char(letters, digit);
-        rest = rest / radix.value;
+        rest /= radix.value;
     }
     place -= 1;
     let first = rest as u8;

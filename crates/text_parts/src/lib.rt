@@ -1,5 +1,5 @@
-// A text cut into parts of one size, with a character behind or a text before each: digits that were made at once and
-// are written in lines, chunks or groups.
+// A text cut into parts of one size, with a character behind or a text before each: digits that were
+// made at once and are written in lines, chunks or groups.
 #![tactic(auto)]
 
 ghost use Rattle.std.specs.Prelude.{◌≡◌, [], ◌∷◌, ◌+◌, ◌*◌, ◌≤◌, ◌<◌, length};
@@ -45,7 +45,9 @@ pub fn put_part(out: &mut [u8], at: usize, part: &[u8]) -> usize
 }
 
 // Stores the first `count` parts of `s`, of `size` characters each, and a character behind each. The
-// parts are counted, since they may have no characters, and `chunks_exact` wants some.
+// parts are counted: the promise is of parts with no characters too, and `chunks_exact` wants some. Text,
+// size and count are apart, here and below: each function has one caller, and a struct would be made
+// anew at each call.
 #[tactic(auto, using(crate::proofs::Parts::part_within))]
 pub fn put_parts(out: &mut [u8], at: usize, s: &[u8], size: usize, tail: u8, count: usize) -> usize
     requires { (count * size ≤ length s.now) × (at + count * (size + 1) ≤ length out.old) }

@@ -76,6 +76,7 @@ pub fn put_digits(out: &mut [u8], at: usize, width: DigitWidth, value: u64, coun
 {
     let base: u64 = 1 << width.bits as u64;
     let mut next = at;
+    // By numbers, since a digit is computed from its own.
     for k in (0..count).rev() {
         let behind = (k * width.bits) as u64;
         let digit = ((value >> behind) % base) as u8;
@@ -84,7 +85,8 @@ pub fn put_digits(out: &mut [u8], at: usize, width: DigitWidth, value: u64, coun
     next
 }
 
-// Stores the eight digits of `width` that a number ends with.
+// Stores the eight digits of `width` that a number ends with. The choice is made for each eight: to make
+// it once, each width would be a type with a trait and its law, and be no plainer.
 pub fn put_eight(out: &mut [u8], at: usize, word: u64, width: DigitWidth) -> usize
     requires { at + 8 ≤ length out.old }
     ensures { Writes (digits_of width.bits 8 word) out.old at out.new result }

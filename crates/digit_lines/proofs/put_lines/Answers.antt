@@ -17,10 +17,10 @@ put_block-next-requires-clause-small c =
     let a = c.args in
     let k = c.loop-k.k in
     let n = c.min-lines.result in
-    let fewer = mul-le-mul_right {m = n} {n = c.block_lines-most.result} a.size (omega (arith, c.min-lines.ensures)) in
+    let fewer = mul-le-mul_right {m = n} {n = c.block_lines-most.result} a.groups.size (omega (arith, c.min-lines.ensures)) in
     let within : k + n ≤ a.count = omega (arith, c.min-lines.ensures, c.loop-k-test.true) in (
       omega (arith, fewer, c.block_lines-most.ensures.1),
-      omega (arith, c.plus-start.ensures, mul_assoc n a.size a.width.bits, add-mul k n (a.size * a.width.bits), mul-le-mul_right (a.size * a.width.bits) within, c.requires.small.2),
+      omega (arith, c.plus-start.ensures, mul_assoc n a.groups.size a.groups.width.bits, add-mul k n (a.groups.size * a.groups.width.bits), mul-le-mul_right (a.groups.size * a.groups.width.bits) within, c.requires.small),
     )
 
 pub put_block-next-requires-clause-room : goal.put_block-next-requires-clause-room
@@ -29,8 +29,8 @@ put_block-next-requires-clause-room c =
     let l = c.loop-k in
     let n = c.min-lines.result in
     let within : l.k + n ≤ a.count = omega (arith, c.min-lines.ensures, c.loop-k-test.true) in
-    let written = lines_length a.image.bytes.now a.image.len a.width.bits a.from.0 a.size a.tail l.k in
-    omega (arith, l.invariant.1.next, l.invariant.2, written, add-mul l.k n (a.size + 1), mul-le-mul_right (a.size + 1) within, c.requires.room)
+    let written = lines_length a.groups.image.bytes.now a.groups.image.len a.groups.width.bits a.from.0 a.groups.size a.tail l.k in
+    omega (arith, l.invariant.1.next, l.invariant.2, written, add-mul l.k n (a.groups.size + 1), mul-le-mul_right (a.groups.size + 1) within, c.requires.room)
 
 pub loop-k-preserved : goal.loop-k-preserved
 loop-k-preserved c =
@@ -38,7 +38,7 @@ loop-k-preserved c =
     let a = c.args in
     let whole : c.min-lines.result ≡ c.block_lines-most.result = omega (arith, c.min-lines.ensures) in (
       omega (arith, c.min-lines.ensures),
-      rw (lines_append a.image.bytes.now a.image.len a.width.bits a.from.0 a.size a.tail l.k c.block_lines-most.result, ← whole) (writes_then l.invariant.1 (rw c.plus-start.ensures at c.put_block-next.ensures)),
+      rw (lines_append a.groups.image.bytes.now a.groups.image.len a.groups.width.bits a.from.0 a.groups.size a.tail l.k c.block_lines-most.result, ← whole) (writes_then l.invariant.1 (rw c.plus-start.ensures at c.put_block-next.ensures)),
       omega (arith, writes_length c.put_block-next.ensures, l.invariant.2),
     )
 
@@ -52,4 +52,4 @@ returns-2 c =
     let l = c.loop-k in
     let a = c.args in
     let last : a.count ≡ l.k + c.min-lines.result = omega (arith, c.min-lines.ensures, c.loop-k-test.true) in
-    rw (last, lines_append a.image.bytes.now a.image.len a.width.bits a.from.0 a.size a.tail l.k c.min-lines.result) (writes_then l.invariant.1 (rw c.plus-start.ensures at c.put_block-next.ensures))
+    rw (last, lines_append a.groups.image.bytes.now a.groups.image.len a.groups.width.bits a.from.0 a.groups.size a.tail l.k c.min-lines.result) (writes_then l.invariant.1 (rw c.plus-start.ensures at c.put_block-next.ensures))

@@ -19,7 +19,7 @@ put_lines-next-requires c =
     let digit = c.args.digit.bits in
     let runs = c.requires.runs.2 in
     let reach = div-mul-le_self i.len p.width in record {
-      small = (runs.0, omega (arith, runs.1), omega (arith, ap (λ (x : ℕ). whole * x) runs.2, reach, p.good.few));
+      small = omega (arith, ap (λ (x : ℕ). whole * x) runs.2, reach, p.good.few);
       room = omega (
         arith,
         lines_length i.bytes.now i.len digit 0 (p.width / digit) 10 whole,
