@@ -208,8 +208,9 @@ fn put_any(
     rest.put_last(out, next, count - done)
 }
 
-// Whether the contents are pairs of hexadecimal digits, the most frequent ones, which have functions of
-// their own.
+// Whether the contents are pairs of hexadecimal digits, a bool, since nothing is found but that it is so.
+// Such contents have functions of their own: at most two digits stand behind the pairs, so that no loop of
+// single digits is left, and no division by an option.
 fn paired(options: ListingOptions) -> bool
     ensures { result ≡ true → (options.given.base ≡ 16) × (options.given.digits_per_group ≡ 2) }
 {

@@ -25,7 +25,7 @@ pub struct SpanLine {
 }
 
 // Stores a number that fits in a width, filled with spaces on its left to it. Base 16, the most frequent
-// one, has a loop of its own, as in `listing::digit_count`.
+// one, has a call of its own, as in `listing::digit_count`.
 fn put_number(out: &mut [u8], at: usize, value: u64, radix: Radix, width: usize) -> usize
     requires { (digit_count radix.value value ≤ width) × (at + width ≤ length out.old) }
     ensures { Writes (padded 32 width (number_text Lower radix.value value)) out.old at out.new result }
@@ -106,7 +106,8 @@ impl SpanLine {
         }
     }
 
-    // Stores the contents of the span at the left of their column.
+    // Stores the contents of the span at the left of their column. Those of a span without an offset are
+    // defined too, at the number of none.
     fn put_column(self, out: &mut [u8], at: usize, image: Image) -> usize
         requires { at + length (at_left self.layout.widths.content (contents self.layout.options.given image.bytes.now image.len (unwrap_or self.span.offset absent) self.span.size)) ≤ length out.old }
         ensures { Writes (at_left self.layout.widths.content (contents self.layout.options.given image.entry.bytes.now image.entry.len (unwrap_or self.span.offset absent) self.span.size)) out.old at out.new result }
