@@ -11,6 +11,7 @@ ghost use Rattle.numbers.specs.Digits.{digit_count, padded};
 ghost use Rattle.ordering.specs.Order.{absent, offset_from};
 ghost use Rattle.listing.specs.Listing.{lent, location_from, unequal, Narrow, out_of_range, bad_annotated, content_need, addr_title, wider, widths_of, heading};
 
+use bitvec::BitOffset;
 use numbers::{DigitWidth, Letters, Radix};
 use ordering::SpanList;
 use sources::NO_LOCATION;
@@ -249,8 +250,9 @@ impl Layout {
     {
         let Layout { options, widths } = self;
         let radix = options.radix.value;
-        let byte = digit_count((offset / 8) as u64, radix);
-        let bit = digit_count((offset % 8) as u64, radix);
+        let from = BitOffset::from(offset);
+        let byte = digit_count(from.byte() as u64, radix);
+        let bit = digit_count(from.shift() as u64, radix);
         let address = digit_count(addr, radix);
         let content = options.content_need(size);
         Widths {

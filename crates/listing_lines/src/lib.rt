@@ -11,7 +11,7 @@ ghost use Rattle.ordering.specs.Order.{absent};
 ghost use Rattle.listing.specs.Listing.{Narrow, contents, at_left, position, line_text};
 ghost use Rattle.listing_lines.specs.Fits.{SpanFits};
 
-use bitvec::Image;
+use bitvec::{BitOffset, Image};
 use listing::{Layout, ListedSpan};
 use numbers::{Letters, Radix};
 use ordering::ABSENT;
@@ -49,12 +49,13 @@ impl SpanLine {
             next = output::put(out, next, b':');
             return numbers::put_right(out, next, b"-", widths.outp_bit);
         };
-        next = put_number(out, next, (offset / 8) as u64, options.radix, widths.outp);
+        let from = BitOffset::from(offset);
+        next = put_number(out, next, from.byte() as u64, options.radix, widths.outp);
         next = output::put(out, next, b':');
         put_number(
             out,
             next,
-            (offset % 8) as u64,
+            from.shift() as u64,
             options.radix,
             widths.outp_bit,
         )
