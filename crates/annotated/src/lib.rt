@@ -17,8 +17,8 @@ use outcome::{Export, Refusal};
 use sources::Sources;
 use span_range::{GoodSpans, MAX_SPANS};
 
-// What a listing shows, where each refusal but refusal 8 is ruled out: at most 4,096 spans, none of them
-// with a fault, and short texts.
+// What a listing shows: at most 4,096 spans, none of them with a fault, and texts of at most 1,048,576
+// bytes.
 #[derive(Clone, Copy)]
 struct Listed<'a> {
     image: Image<'a>,
@@ -70,7 +70,7 @@ impl<'a> Listed<'a> {
         self.list_in_order(&places[..offsets.len()], out)
     }
 
-    // The listing, or refusal 8. For few spans less memory is set to zero.
+    // The listing, or refusal 8. For few spans less memory is set to zero, as in `blocks::find_blocks`.
     fn list(self, out: &mut [u8]) -> Export
         ensures { Exports (in_room (length out.old) (annotated_text self.entry.options.given self.entry.image.bytes.now self.entry.image.len (lent self.entry.spans.columns) self.entry.sources.firmware.now self.entry.sources.protocol.now)) result out.old out.new }
     {
@@ -122,7 +122,8 @@ pub fn format_annotated(
     let image = image.good().ok_or(Refusal::ImageSize)?;
     let options = ListingOptions::new(options).ok_or(Refusal::OptionRange)?;
     let spans = ListedSpans::new(spans).ok_or(Refusal::SpanRange(MAX_SPANS))?;
-    // That the list is in its range is all that is used of it: its numbers are in the columns.
+    // That the list is in its range is all that is used of it, and by the proof alone: its numbers are in
+    // the columns, whose lengths it compares once more.
     let list = GoodSpans::new(spans.columns.offsets, spans.columns.sizes)?;
     format_spans(image.image, options, spans, sources, out)
 }

@@ -1,6 +1,7 @@
 // The exporters for C and Rust, under the names that include/riceshoal.h declares. A slice is a
 // pointer and a length. A function returns the number of the refusal, 0 for a text, and stores the
-// length of the text or the value that comes with the refusal.
+// length of the text or the value that comes with the refusal. An image is a slice and a bit length, and
+// strings, columns and options are a parameter each, since the C interface lends them so.
 #![tactic(auto, using(crate::proofs::Returns::gives))]
 
 ghost use Rattle.std.specs.Prelude.{◌≡◌, length};
@@ -234,7 +235,6 @@ pub extern "C" fn riceshoal_format_intelhex(
     )
 }
 
-// The C interface lends each column of the spans and each option as a parameter.
 #[unsafe(no_mangle)]
 pub extern "C" fn riceshoal_format_annotated(
     image: &[u8],

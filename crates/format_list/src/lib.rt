@@ -170,12 +170,7 @@ impl<'a> ByteGroups<'a> {
         ensures { MatchOption result (bytes_of list.entry ≡ 0) (λ g. (g.list ≡ list.entry) × (g.kind ≡ group_kind list.entry.options.width.bits) × (g.bytes ≡ bytes_of list.entry)) }
     {
         let kind = ByteDigits::with_bits(list.options.width.bits)?;
-        let digits = list.options.given.digits_per_group;
-        let each = kind.per_byte();
-        if digits % each != 0 {
-            return None;
-        }
-        let bytes = digits / each;
+        let bytes = kind.bytes_in(list.options.given.digits_per_group)?;
         Some(ByteGroups { list, kind, bytes })
     }
 

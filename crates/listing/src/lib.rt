@@ -11,11 +11,13 @@ ghost use Rattle.numbers.specs.Digits.{digit_count, padded};
 ghost use Rattle.ordering.specs.Order.{absent, offset_from};
 ghost use Rattle.listing.specs.Listing.{lent, location_from, unequal, Narrow, out_of_range, bad_annotated, content_need, addr_title, wider, widths_of, heading};
 
+use bitvec::BitOffset;
 use numbers::{DigitWidth, Letters, Radix};
 use ordering::SpanList;
 use sources::NO_LOCATION;
 
-// The spans of a listing as they are lent, a column for each number of a span; their lengths may differ.
+// The spans of a listing, a column for each number of a span, as the C interface lends them; their lengths
+// may differ.
 #[derive(Clone, Copy)]
 pub struct SpanColumns<'a> {
     pub offsets: &'a [u32],
@@ -26,7 +28,8 @@ pub struct SpanColumns<'a> {
     pub ends: &'a [u64],
 }
 
-// A part of a source text: its file, by its number, and a start and an end there.
+// A part of a source text: its file, by its number, and a start and an end there. `spans::Location` has no
+// file, which document 01's record has beside it.
 #[derive(Clone, Copy)]
 pub struct Location {
     pub file: u8,
@@ -185,7 +188,8 @@ impl ListingOptions {
         })
     }
 
-    // What the contents of a span of `size` bits ask of the width of their column.
+    // What the contents of a span of `size` bits ask of the width of their column: 0, which widens no
+    // column, where they ask for nothing.
     fn content_need(self, size: u32) -> usize
         ensures { (result ≡ content_need self.given size) × (result ≤ 324) }
     {
@@ -199,9 +203,9 @@ impl ListingOptions {
     }
 }
 
-// How many digits a number has in the base of the addresses. Base 16, the most frequent one, has a loop
-// of its own, which divides by no variable: with one loop for all, tried, an address of eight digits
-// takes more than twice as long.
+// How many digits a number has in the base of the addresses. Base 16, the most frequent one, has a call of
+// its own, which divides by no variable: with one call for all, tried, an address of eight digits takes
+// more than twice as long (the listing's target is 10 times the speed of the Rust).
 pub fn digit_count(value: u64, radix: u64) -> usize
     requires { 2 ≤ radix }
     ensures { result ≡ digit_count radix value }
@@ -246,8 +250,9 @@ impl Layout {
     {
         let Layout { options, widths } = self;
         let radix = options.radix.value;
-        let byte = digit_count((offset / 8) as u64, radix);
-        let bit = digit_count((offset % 8) as u64, radix);
+        let from = BitOffset::from(offset);
+        let byte = digit_count(from.byte() as u64, radix);
+        let bit = digit_count(from.shift() as u64, radix);
         let address = digit_count(addr, radix);
         let content = options.content_need(size);
         Widths {

@@ -154,12 +154,24 @@ impl<'a> Digits<'a> {
             return at;
         }
         if let Some(kind) = ByteDigits::with_bits(self.width.bits) {
-            let size = self.group / kind.per_byte();
-            if size * kind.per_byte() == self.group {
+            if let Some(size) = kind.bytes_in(self.group) {
                 return self.put_byte_groups(out, at, kind, size, count);
             }
         }
         self.put_runs(out, at, count)
+    }
+
+    // The digits behind the first `count`.
+    fn behind(self, count: usize) -> Digits<'a>
+        requires { self.from.0 + count * self.width.bits < 2 ^ 64 }
+        ensures rest { (result.image ≡ self.entry.image) × (result.width ≡ self.entry.width) × (result.group ≡ self.entry.group) × (result.from.0 ≡ self.entry.from.0 + count * self.entry.width.bits) }
+    {
+        Digits {
+            image: self.image,
+            from: self.from.plus(count * self.width.bits),
+            width: self.width,
+            group: self.group,
+        }
     }
 
     // How many groups are within the whole bytes of the image, at most `most`.
@@ -198,18 +210,12 @@ fn put_any(
     let whole = digits.groups_inside(count.saturating_sub(1) / group);
     let next = digits.put_groups(out, at, whole);
     let done = whole * group;
-    let from = from.plus(done * width.bits);
-    let rest = Digits {
-        image,
-        from,
-        width,
-        group,
-    };
-    rest.put_last(out, next, count - done)
+    digits.behind(done).put_last(out, next, count - done)
 }
 
-// Whether the contents are pairs of hexadecimal digits, the most frequent ones, which have functions of
-// their own.
+// Whether the contents are pairs of hexadecimal digits, a bool, since nothing is found but that it is so.
+// Such contents have functions of their own: at most two digits stand behind the pairs, so that no loop of
+// single digits is left, and no division by an option.
 fn paired(options: ListingOptions) -> bool
     ensures { result ≡ true → (options.given.base ≡ 16) × (options.given.digits_per_group ≡ 2) }
 {

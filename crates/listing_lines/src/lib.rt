@@ -11,7 +11,7 @@ ghost use Rattle.ordering.specs.Order.{absent};
 ghost use Rattle.listing.specs.Listing.{Narrow, contents, at_left, position, line_text};
 ghost use Rattle.listing_lines.specs.Fits.{SpanFits};
 
-use bitvec::Image;
+use bitvec::{BitOffset, Image};
 use listing::{Layout, ListedSpan};
 use numbers::{Letters, Radix};
 use ordering::ABSENT;
@@ -25,7 +25,7 @@ pub struct SpanLine {
 }
 
 // Stores a number that fits in a width, filled with spaces on its left to it. Base 16, the most frequent
-// one, has a loop of its own, as in `listing::digit_count`.
+// one, has a call of its own, as in `listing::digit_count`.
 fn put_number(out: &mut [u8], at: usize, value: u64, radix: Radix, width: usize) -> usize
     requires { (digit_count radix.value value ≤ width) × (at + width ≤ length out.old) }
     ensures { Writes (padded 32 width (number_text Lower radix.value value)) out.old at out.new result }
@@ -49,12 +49,13 @@ impl SpanLine {
             next = output::put(out, next, b':');
             return numbers::put_right(out, next, b"-", widths.outp_bit);
         };
-        next = put_number(out, next, (offset / 8) as u64, options.radix, widths.outp);
+        let from = BitOffset::from(offset);
+        next = put_number(out, next, from.byte() as u64, options.radix, widths.outp);
         next = output::put(out, next, b':');
         put_number(
             out,
             next,
-            (offset % 8) as u64,
+            from.shift() as u64,
             options.radix,
             widths.outp_bit,
         )
@@ -106,7 +107,8 @@ impl SpanLine {
         }
     }
 
-    // Stores the contents of the span at the left of their column.
+    // Stores the contents of the span at the left of their column. Those of a span without an offset are
+    // defined too, at the number of none.
     fn put_column(self, out: &mut [u8], at: usize, image: Image) -> usize
         requires { at + length (at_left self.layout.widths.content (contents self.layout.options.given image.bytes.now image.len (unwrap_or self.span.offset absent) self.span.size)) ≤ length out.old }
         ensures { Writes (at_left self.layout.widths.content (contents self.layout.options.given image.entry.bytes.now image.entry.len (unwrap_or self.span.offset absent) self.span.size)) out.old at out.new result }

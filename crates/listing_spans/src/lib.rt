@@ -46,7 +46,8 @@ fn outside(sources: Sources, location: Location) -> bool
 
 // The excerpt at a location, or none where no text has it.
 fn excerpt<'a>(sources: Sources<'a>, location: Option<Location>) -> Option<&'a [u8]>
-    ensures { let f = sources.entry.firmware.now in let p = sources.entry.protocol.now in (file start end : ℕ) → location ≡ location_from file start end → MatchOption result (misplaced f p file start end ≡ true) (λ t. (misplaced f p file start end ≡ false) × (t.now ≡ excerpt_of f p file start end)) }
+    ensures { let f = sources.entry.firmware.now in let p = sources.entry.protocol.now in (file start end : ℕ) → location ≡ location_from file start end
+        → MatchOption result (misplaced f p file start end ≡ true) (λ t. (misplaced f p file start end ≡ false) × (t.now ≡ excerpt_of f p file start end)) }
 {
     let location = location?;
     if outside(sources, location) {
@@ -97,7 +98,8 @@ impl<'a> ShownSpans<'a> {
     // The excerpt of the span at a place, or none where the span is hidden.
     fn excerpt(self, place: usize) -> Option<&'a [u8]>
         requires { place < length self.spans.columns.offsets.now }
-        ensures { let s = self.entry in let c = s.spans.columns in let seen = shown s.layout.options.given (get_or c.sizes.now place 0) in MatchOption result (seen ≡ false) (λ t. (seen ≡ true) × (t.now ≡ excerpt_of s.sources.firmware.now s.sources.protocol.now (get_or c.files.now place 0) (get_or c.starts.now place 0) (get_or c.ends.now place 0))) }
+        ensures { let s = self.entry in let c = s.spans.columns in let seen = shown s.layout.options.given (get_or c.sizes.now place 0) in MatchOption result (seen ≡ false)
+            (λ t. (seen ≡ true) × (t.now ≡ excerpt_of s.sources.firmware.now s.sources.protocol.now (get_or c.files.now place 0) (get_or c.starts.now place 0) (get_or c.ends.now place 0))) }
     {
         let columns = self.spans.columns;
         if !shown(self.layout.options.given, columns.sizes[place]) {

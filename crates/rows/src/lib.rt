@@ -3,7 +3,7 @@
 // shown, so that none is tested here.
 #![tactic(auto)]
 
-ghost use Rattle.std.specs.Prelude.{MatchOption, ◌≡◌, ◌≢◌, [], ◌∷◌, ◌++◌, ◌+◌, ◌*◌, ◌%◌, ◌≤◌, ◌<◌, length};
+ghost use Rattle.std.specs.Prelude.{MatchOption, ◌≡◌, ◌≢◌, [], ◌∷◌, ◌++◌, ◌+◌, ◌*◌, ◌/◌, ◌%◌, ◌≤◌, ◌<◌, length};
 ghost use Rattle.output.specs.Writes.{Writes};
 ghost use Rattle.rows.specs.declared.ByteDigits.{ByteDigits};
 ghost use Rattle.rows.specs.declared.ByteDigits.TheVariants.{Hex};
@@ -50,6 +50,17 @@ impl ByteDigits {
             ByteDigits::Binary => 8,
             ByteDigits::Hex => 2,
         }
+    }
+
+    // How many bytes a number of digits make, where none is left.
+    pub fn bytes_in(self, digits: usize) -> Option<usize>
+        ensures { MatchOption result (digits % digits_per_byte self ≢ 0) (λ n. (digits % digits_per_byte self ≡ 0) × (n ≡ digits / digits_per_byte self) × (digits ≡ n * digits_per_byte self)) }
+    {
+        let each = self.per_byte();
+        if digits % each != 0 {
+            return None;
+        }
+        Some(digits / each)
     }
 }
 

@@ -2,12 +2,12 @@
 // protocol's, which is file 1.
 #![tactic(auto)]
 
-ghost use Rattle.std.specs.Prelude.{◌≡◌, ◌≤◌, max, length, fold};
+ghost use Rattle.std.specs.Prelude.{◌≡◌, ◌≤◌, length};
 ghost use Rattle.sources.specs.Sources.{source, excerpt_of, bad_text};
 
 // The start, and the end, that say that a span has no location: a number, since the C interface lends
 // it.
-pub const NO_LOCATION: u64 = 18446744073709551615;
+pub const NO_LOCATION: u64 = u64::MAX;
 
 // The two source texts as they are lent.
 #[derive(Clone, Copy)]
@@ -46,13 +46,6 @@ impl<'a> Sources<'a> {
     }
 }
 
-// The highest byte of a text. All are looked at, without a way out, so that many are looked at at once.
-fn highest(text: &[u8]) -> u8
-    ensures { result ≡ fold max 0 text.now }
-{
-    text.iter().fold(0, |most, &byte| most.max(byte))
-}
-
 // Whether a text is too long or not ASCII, the cause of refusal 6.
 #[tactic(auto, unfolding(crate::specs::Sources::bad_text))]
 pub fn bad_text(text: &[u8]) -> bool
@@ -61,5 +54,5 @@ pub fn bad_text(text: &[u8]) -> bool
     if 1048576 < text.len() {
         return true;
     }
-    127 < highest(text)
+    !text.is_ascii()
 }

@@ -1,7 +1,7 @@
 // The numbers of the first records of a slice, in columns: at most one record more than a span list
-// may have, by which the core tells that a list is too long. Fixed memory: an array for each column,
-// and one count. The columns are fields of two structs, since a generic one may hold no array of its
-// type parameter.
+// may have, by which the core tells that a list is too long. Fixed memory: an array for each column, and
+// a count in each of two structs. The columns are their fields, since a generic struct may hold no array
+// of its type parameter.
 ghost use Rattle.std.specs.Prelude.{◌≡◌, ◌≤◌, length, take, map};
 ghost use Rattle.std.proofs.lemmas.List.Edits.{sets};
 

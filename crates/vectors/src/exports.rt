@@ -1,4 +1,6 @@
-// The calls that lines stand for. The fields of a line are those that the record's head names.
+// The calls that lines stand for. The fields of a line are those that the record's head names. Four
+// functions take an allocator, the line, the image and room: a struct of these would be taken apart in
+// each of them.
 use crate::line::{Kind, Line};
 use crate::tables::{Row, column, decode, rows};
 use bitvec::Image;

@@ -67,10 +67,11 @@ put_last-requires c =
     let known = counted a.options a.size _ _ n (omega arith) c.parts-count.ensures c.saturating_sub.ensures inside.0 in
     let parts = parts_of a.options a.image.bytes.now a.image.len a.offset a.size _ _ n c.parts-count.ensures c.saturating_sub.ensures inside.0 (λ h. (inside.1 h).0) in
     let left : (count - n * g) * w ≤ count * w = mul-le-mul_right w (omega arith) in
+    let rest = c.behind.ensures.rest in
     let place = mul_assoc n g w in
     record {
-      small = omega (arith, c.plus-from.ensures, c.from-from.ensures, left, known.reach, known.all);
-      room = rw (c.plus-from.ensures, c.from-from.ensures, place) (room_then (spaced a.image.bytes.now a.image.len w g (a.offset + n * (g * w)) (count - n * g)) (rw c.from-from.ensures at c.put_groups-next.ensures) (rw parts at c.requires));
+      small = rw (rest.1, rest.3) (omega (arith, c.from-from.ensures, left, known.reach, known.all));
+      room = rw (rest.0, rest.1, rest.2, rest.3, c.from-from.ensures, place) (room_then (spaced a.image.bytes.now a.image.len w g (a.offset + n * (g * w)) (count - n * g)) (rw c.from-from.ensures at c.put_groups-next.ensures) (rw parts at c.requires));
     }
 
 pub returns : goal.returns
@@ -78,5 +79,6 @@ returns c =
     let a = c.args in
     let inside = rw c.from-from.ensures at c.groups_inside-whole.ensures in
     let parts = parts_of a.options a.image.bytes.now a.image.len a.offset a.size _ _ _ c.parts-count.ensures c.saturating_sub.ensures inside.0 (λ h. (inside.1 h).0) in
+    let rest = c.behind.ensures.rest in
     let place = mul_assoc c.groups_inside-whole.result a.options.given.digits_per_group a.options.width.bits in
-    rw parts (writes_then (rw c.from-from.ensures at c.put_groups-next.ensures) (rw (c.plus-from.ensures, c.from-from.ensures, place) at c.put_last.ensures))
+    rw parts (writes_then (rw c.from-from.ensures at c.put_groups-next.ensures) (rw (rest.0, rest.1, rest.2, rest.3, c.from-from.ensures, place) at c.put_last.ensures))

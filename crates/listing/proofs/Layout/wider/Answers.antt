@@ -14,8 +14,10 @@ returns c =
     let byte = few (c.args.offset / 8) (omega arith) in
     let bit = few (c.args.offset % 8) (omega arith) in
     let address = few c.args.addr (omega arith) in
+    let bytes = rw (c.byte.ensures, c.from-from.ensures) at c.digit_count-byte.ensures in
+    let bits = rw (c.shift.ensures, c.from-from.ensures) at c.digit_count-bit.ensures in
     record {
-      widths = rw (c.max.ensures, c.max-2.ensures, c.max-3.ensures, c.max-4.ensures, c.digit_count-byte.ensures, c.digit_count-bit.ensures, c.digit_count-address.ensures, c.content_need-content.ensures.0, o.addresses);
-      position = (omega (arith, c.max.ensures, c.digit_count-byte.ensures), omega (arith, c.max-2.ensures, c.digit_count-bit.ensures));
+      widths = rw (c.max.ensures, c.max-2.ensures, c.max-3.ensures, c.max-4.ensures, bytes, bits, c.digit_count-address.ensures, c.content_need-content.ensures.0, o.addresses);
+      position = (omega (arith, c.max.ensures, bytes), omega (arith, c.max-2.ensures, bits));
       others = (omega (arith, c.max-3.ensures, c.digit_count-address.ensures), omega (arith, c.max-4.ensures, c.content_need-content.ensures.1));
     }

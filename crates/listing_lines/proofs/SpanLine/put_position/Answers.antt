@@ -31,13 +31,13 @@ numbers_room s offset at room e h =
     rw (← present_length s.layout.options.given s.layout.widths offset s.span.addr (s.span.there offset e) (rw e at s.fits)) (rw e at h)
 
 -- the length of the first number
-byte_length : (s : SpanLine) (offset : ℕ) → s.span.offset ≡ Some offset
-    → length (at_right s.layout.widths.outp (number_text Lower s.layout.options.radix.value (offset / 8))) ≡ s.layout.widths.outp
-byte_length s offset e =
+byte_length : (s : SpanLine) (offset byte : ℕ) → s.span.offset ≡ Some offset → byte ≡ offset / 8
+    → length (at_right s.layout.widths.outp (number_text Lower s.layout.options.radix.value byte)) ≡ s.layout.widths.outp
+byte_length s offset byte e f =
     let fits : SpanFits s.layout.options.given s.layout.widths offset s.span.addr = rw e at s.fits in
-    let byte = rw (← s.layout.options.addresses) at (fits.byte_fits (s.span.there offset e)) in
+    let short = rw (← s.layout.options.addresses) at (fits.byte_fits (s.span.there offset e)) in
     let text = number_text Lower s.layout.options.radix.value (offset / 8) in
-    omega (arith, byte, padded_length 32 s.layout.widths.outp text, number_length Lower s.layout.options.radix.value (offset / 8))
+    rw f (omega (arith, short, padded_length 32 s.layout.widths.outp text, number_length Lower s.layout.options.radix.value (offset / 8)))
 
 pub put-next-requires : goal.put-next-requires
 put-next-requires c = omega (arith, c.requires, position_parts c.args.self.layout.options.given c.args.self.layout.widths (unwrap_or c.args.self.span.offset absent))
@@ -64,19 +64,19 @@ pub put_number-next-requires : goal.put_number-next-requires
 put_number-next-requires c =
     let a = c.args.self in
     let fits : SpanFits a.layout.options.given a.layout.widths c.in-Some.offset a.span.addr = rw c.in-Some.is at a.fits in (
-      rw a.layout.options.addresses (fits.byte_fits (a.span.there _ c.in-Some.is)),
+      rw (c.byte.ensures, c.from-from.ensures, a.layout.options.addresses) (fits.byte_fits (a.span.there _ c.in-Some.is)),
       omega (arith, numbers_room a _ c.args.at _ c.in-Some.is c.requires),
     )
 
 pub put-next-requires-2 : goal.put-next-requires-2
-put-next-requires-2 c = omega (arith, byte_length c.args.self _ c.in-Some.is, numbers_room c.args.self _ c.args.at _ c.in-Some.is c.requires)
+put-next-requires-2 c = omega (arith, byte_length c.args.self _ _ c.in-Some.is (rw c.from-from.ensures at c.byte.ensures), numbers_room c.args.self _ c.args.at _ c.in-Some.is c.requires)
 
 pub put_number-requires : goal.put_number-requires
 put_number-requires c =
     let a = c.args.self in
     let fits : SpanFits a.layout.options.given a.layout.widths c.in-Some.offset a.span.addr = rw c.in-Some.is at a.fits in (
-      rw a.layout.options.addresses (fits.bit_fits (a.span.there _ c.in-Some.is)),
-      omega (arith, byte_length a _ c.in-Some.is, numbers_room a _ c.args.at _ c.in-Some.is c.requires),
+      rw (c.shift.ensures, c.from-from.ensures, a.layout.options.addresses) (fits.bit_fits (a.span.there _ c.in-Some.is)),
+      omega (arith, byte_length a _ _ c.in-Some.is (rw c.from-from.ensures at c.byte.ensures), numbers_room a _ c.args.at _ c.in-Some.is c.requires),
     )
 
 pub returns : goal.returns
@@ -85,6 +85,6 @@ returns c =
     let o = a.layout.options in
     rw (c.in-Some.is, position_present o.given a.layout.widths c.in-Some.offset (a.span.there _ c.in-Some.is))
     (writes_then c.put-next.ensures
-    (writes_then (rw o.addresses at c.put_number-next.ensures)
+    (writes_then (rw (c.byte.ensures, c.from-from.ensures, o.addresses) at c.put_number-next.ensures)
     (writes_then c.put-next-2.ensures
-    (rw o.addresses at c.put_number.ensures))))
+    (rw (c.shift.ensures, c.from-from.ensures, o.addresses) at c.put_number.ensures))))
