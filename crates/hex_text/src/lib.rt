@@ -55,7 +55,7 @@ struct Digits {
 
 impl PutByte for Digits {
     fn put_byte(&self, byte: u8, out: &mut [u8], at: usize) -> usize {
-        put_all(out, at, &self.pairs[byte as usize])
+        output::put_text(out, at, &self.pairs[byte as usize])
     }
 }
 
