@@ -105,7 +105,9 @@ pub fn head_sum(data_record: DataRecord) -> u8
 }
 
 // Writes what stands before a record's data: the colon, the number of data bytes, the address and
-// the type. The bytes of the address are written by `digits`.
+// the type. The bytes of the address are written by `digits`. It is put into its callers, since a call
+// takes longer for a record of one byte.
+#[inline(always)]
 #[tactic(auto, using(output::proofs::Writes::writes_length), unfolding(numbers::specs::Digits::byte_text))]
 pub fn put_head<D: PutByte>(digits: &D, data_record: DataRecord, out: &mut [u8], at: usize) -> usize
     requires { at + 9 ≤ length out.old }
