@@ -17,7 +17,7 @@ use Rattle.ordering.proofs.Lists.{first_none}
 use Rattle.sources.specs.Sources.{source, excerpt_of, no_location}
 use Rattle.listing.specs.declared.FormatAnnotatedOptions.{FormatAnnotatedOptions}
 use Rattle.listing.specs.declared.Widths.{Widths}
-use Rattle.listing.specs.Listing.{Spans, shown, line_text, span_line}
+use Rattle.listing.specs.Listing.{Spans, spans_of, shown, line_text, span_line}
 use Rattle.listing_spans.specs.Faults.{misplaced, faulty, span_fault}
 
 -- What is not the case where the first of two things is.
@@ -98,3 +98,9 @@ excerpt_short firmware protocol file start end most f p =
     go : (b : Bool) → length (cond b firmware protocol) ≤ most
     go true = f
     go false = p
+
+-- No logical address has a part in a fault: the first one is the same whatever they are.
+pub fault_alike : (o : FormatAnnotatedOptions) (offsets sizes addrs addrs₂ files starts ends firmware protocol : List ℕ)
+    → span_fault o (spans_of offsets sizes addrs files starts ends) firmware protocol ≡ span_fault o (spans_of offsets sizes addrs₂ files starts ends) firmware protocol
+unfolding span_fault
+fault_alike o offsets sizes addrs addrs₂ files starts ends firmware protocol = refl
