@@ -17,7 +17,8 @@ use listing::ListingOptions;
 use numbers::{DigitWidth, Letters};
 use rows::ByteDigits;
 
-// Digits of a span: from a bit of the image on, of `width` bits each, in groups of `group`.
+// Digits of a span: from a bit of the image on, of `width` bits each, in groups of `group`. How many is
+// asked by number, and with it that their bits can be counted: each function takes another part of them.
 #[derive(Clone, Copy)]
 struct Digits<'a> {
     image: Image<'a>,
