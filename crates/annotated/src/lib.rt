@@ -59,7 +59,7 @@ impl<'a> Listed<'a> {
         Ok(shown.put_lines(out, next, image, places))
     }
 
-    // The listing of at most N spans, or refusal 8.
+    // The listing of at most N spans, or refusal 8. N is bounded as in `span_order::order_within`.
     fn list_within<const N: usize>(self, out: &mut [u8]) -> Export
         requires { (length self.spans.columns.offsets.now ≤ N) × (N ≤ 4096) }
         ensures { Exports (in_room (length out.old) (annotated_text self.entry.options.given self.entry.image.bytes.now self.entry.image.len (lent self.entry.spans.columns) self.entry.sources.firmware.now self.entry.sources.protocol.now)) result out.old out.new }

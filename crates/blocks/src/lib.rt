@@ -77,7 +77,8 @@ fn close_all(
     close(block, count, block_offsets, block_sizes)
 }
 
-// Orders at most N good spans and makes their blocks: the smaller N is, the less memory is set to zero.
+// Orders at most N good spans and makes their blocks: the smaller N is, the less memory is set to zero. N is
+// bounded as in `span_order::order_within`, here and below.
 fn find_ordered<const N: usize>(
     spans: GoodSpans,
     block_offsets: &mut [u32],

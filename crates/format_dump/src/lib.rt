@@ -46,7 +46,8 @@ impl DumpOptions {
     }
 }
 
-// How many lines of `count` bytes an image has.
+// How many lines of `count` bytes an image has, as the definition counts them: `div_ceil` of the whole bytes,
+// at least 1, is another formula, and no plainer beside that one.
 fn dump_lines(good: GoodImage, count: usize) -> usize
     requires { (0 < count) × (count ≤ 64) }
     ensures { result ≡ dump_lines good.entry.image.len count }

@@ -23,8 +23,8 @@ use hex_records::{
 use numbers::{Letters, digit_char};
 use output::{put, put_all};
 
-// For as many blocks the digits of all bytes are stored first, once for them all: for fewer ones that
-// takes longer than it saves.
+// From as many blocks on the digits of all bytes are stored first, once for them all. A record of one byte
+// takes four of the 256 pairs, so that fewer blocks take fewer pairs than are stored.
 const MANY: usize = 64;
 
 // Both digits of a byte.

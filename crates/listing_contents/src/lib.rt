@@ -18,7 +18,8 @@ use numbers::{DigitWidth, Letters};
 use rows::ByteDigits;
 
 // Digits of a span: from a bit of the image on, of `width` bits each, in groups of `group`. How many is
-// asked by number, and with it that their bits can be counted: each function takes another part of them.
+// asked by number, and with it that their bits can be counted: each function takes another part of them. It
+// is no `DigitGroups`, which has no first bit.
 #[derive(Clone, Copy)]
 struct Digits<'a> {
     image: Image<'a>,

@@ -58,7 +58,7 @@ fn letter_ten(letters: Letters) -> u8
     }
 }
 
-// The character of a digit below 36.
+// The character of a digit below 36: `char::from_digit` has small letters alone.
 #[tactic(auto, using(crate::proofs::Digits::letter_small), unfolding(crate::specs::Digits::digit_char))]
 pub fn digit_char(letters: Letters, digit: u8) -> u8
     requires { digit < 36 }

@@ -18,7 +18,8 @@ pub enum Refusal {
     NoRoom(usize),
 }
 
-// What an exporter answers: the length of the text, or a refusal.
+// What an exporter answers: the length of the text, or a refusal. Each exporter tests its room and writes in
+// three lines: a trait of a length and a text would say both once more as its laws, and be no plainer.
 pub type Export = Result<usize, Refusal>;
 
 // The paper's number and value of an answer.

@@ -96,7 +96,7 @@ pub fn put_bytes(out: &mut [u8], at: usize, kind: ByteDigits, bytes: WholeBytes)
     put_slice(out, at, kind, bytes.slice())
 }
 
-// Stores two bytes.
+// Stores two bytes. The choice of their digits is as in `put_digits`.
 fn put_two(out: &mut [u8], at: usize, kind: ByteDigits, first: u8, second: u8) -> usize
     requires { at + 2 * digits_per_byte kind ≤ length out.old }
     ensures { Writes (byte_digits kind first ++ byte_digits kind second) out.old at out.new result }
@@ -154,7 +154,7 @@ fn put_chunks(
 
 // Stores the bytes in `count` rows of any width, and `tail` behind each. The rows are counted, since
 // `chunks_exact` wants a width above 0, which callers are not asked for; with chunks where it is above 0,
-// rows of eight bytes in hexadecimal took four times as long.
+// rows of eight bytes in hexadecimal, which have no target, took four times as long.
 fn put_wide(
     out: &mut [u8],
     at: usize,

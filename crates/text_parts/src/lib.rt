@@ -30,7 +30,8 @@ fn put_overlapping<const N: usize>(out: &mut [u8], at: usize, part: &[u8]) -> us
 }
 
 // Stores a part. One of up to sixteen characters is two stores, whose size goes by the part's. Tried:
-// a copy of the part's length is a call, which takes three to five times as long.
+// a copy of the part's length is a call, which takes three to five times as long in the rows of short lines,
+// which have no target.
 pub fn put_part(out: &mut [u8], at: usize, part: &[u8]) -> usize
     requires { at + length part.now ≤ length out.old }
     ensures { Writes part.now out.old at out.new result }
@@ -78,7 +79,8 @@ fn put_after(out: &mut [u8], at: usize, s: &[u8], size: usize, head: &[u8], coun
 }
 
 // Stores `count` parts of `s` from part `first` on, and `head` before each: heads of one or two
-// characters have loops of their own. Tried: one loop for all heads takes two to three times as long.
+// characters have loops of their own. Tried: one loop for all heads takes two to three times as long in lists
+// of groups that are no whole bytes, which have no target.
 pub fn put_headed(
     out: &mut [u8],
     at: usize,
