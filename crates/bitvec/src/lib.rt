@@ -125,7 +125,8 @@ impl<'a> Image<'a> {
     }
 
     // The byte that holds bit `from`, where `count` bytes from that bit on and the byte behind them are in
-    // the image.
+    // the image. That it is found then is left free: a wrong None costs time alone, since each caller has
+    // another way.
     #[inline(always)]
     pub fn first_across(self, from: BitOffset, count: usize) -> Option<usize>
         requires { from.0 + 8 * count < 2 ^ 64 }
