@@ -1,15 +1,20 @@
 # What the programs tests/*/run and benches/run share; they source it. It assumes that $root is the
 # repository's folder and $target the program's own folder below target/.
 #
-#   RICESHOAL_STRICT   where it is set, a check that cannot run is a failure
+#   CI                 where it is set, and neither 0 nor false, a check that cannot run is a failure
 #   RICESHOAL_LIB_DIR  the folder of libcapi.a; where it is not set, crates/capi/out
-#   CUSTOMASM_SRC      the Rust's folder; where it is not set, ../shared/docs/src/src
+#   CUSTOMASM_SRC      the Rust's folder; where it is not set, ../shared/docs/src/src, beside this
+#                      repository or beside the one that it is a clone of
 registry=/usr/share/cargo/registry
 
-# Says in one line what was not run, and why. Where RICESHOAL_STRICT is set, that ends the run as a failure.
+# Says in one line what was not run, and why. Where the environment says CI, that ends the run as a
+# failure: there nobody would see the line.
 left_out() {
     echo "$1: not run: $2"
-    [ -z "${RICESHOAL_STRICT:-}" ] || exit 1
+    case ${CI:-} in
+        '' | 0 | false) ;;
+        *) exit 1 ;;
+    esac
 }
 
 # The same for a whole run, which ends.
@@ -58,16 +63,25 @@ find_library() {
     export RICESHOAL_LIB_DIR
 }
 
-# Asks for the lists of Debian's packages, once.
+# Runs a command that asks a server, up to three times.
+ask() {
+    "$@" || { sleep 5 && "$@"; } || { sleep 20 && "$@"; }
+}
+
+# Asks for the lists of Debian's packages, once; fails where they cannot be had.
 update_lists() {
-    [ -z "${lists_are_new:-}" ] || return 0
-    [ "$(id -u)" = 0 ] && apt-get -qq update && lists_are_new=1
+    case ${lists:-} in
+        new) return 0 ;;
+        none) return 1 ;;
+    esac
+    lists=none
+    [ "$(id -u)" = 0 ] && ask apt-get -qq update && lists=new
 }
 
 # Installs a package of Debian's, where that can be done.
 install_package() {
     export DEBIAN_FRONTEND=noninteractive
-    update_lists && apt-get -qq -y --no-install-recommends install "$1"
+    update_lists && ask apt-get -qq -y --no-install-recommends install "$1"
 }
 
 has_bigint() {
@@ -77,11 +91,20 @@ has_bigint() {
     return 1
 }
 
+# Prints the folder of the Rust: beside this repository, else beside the one that it is a clone of.
+rust_folder() {
+    folder=../shared/docs/src/src
+    for repository in "$root" "$(git -C "$root" config remote.origin.url || :)"; do
+        [ ! -d "$repository/$folder" ] || break
+    done
+    echo "$repository/$folder"
+}
+
 # Sets CUSTOMASM_SRC to the folder of the Rust. The argument is a function that is told what cannot be
 # had, and ends the run.
 find_rust() {
     package=librust-num-bigint-dev
-    CUSTOMASM_SRC=${CUSTOMASM_SRC:-$root/../shared/docs/src/src}
+    CUSTOMASM_SRC=${CUSTOMASM_SRC:-$(rust_folder)}
     cargo --version >/dev/null 2>&1 || "$1" "there is no cargo"
     for file in util/bigint util/bitvec util/bitvec_format util/char_counter util/fileserver \
         diagn/report diagn/span; do

@@ -4,7 +4,7 @@
 #
 #   RICESHOAL_LIB_DIR  the folder of libcapi.a (default crates/capi/out)
 #
-# Where there is no C or C++ compiler, it says so in one line; with RICESHOAL_STRICT set that is a failure.
+# Where there is no C or C++ compiler, it says so in one line; with CI set that is a failure.
 set -eu
 
 here=$(CDPATH= cd -- "$(dirname -- "$0")" && pwd -P)
