@@ -112,8 +112,9 @@ uint32_t riceshoal_format_logisim(const uint8_t *image, size_t image_len, size_t
                                   size_t bits_per_chunk,
                                   uint8_t *out, size_t out_len, uint64_t *value);
 
-/* A dump: lines with the address, the digits and the characters of some bytes. The number of lines
- * is rounded down, so that bits past the last line are not shown.
+/* A dump: lines with the address, the digits and the characters of some bytes. There are as many
+ * lines as the image's whole bytes need, but at least one, so that bits of a last part of a byte
+ * that would start the next line are not shown.
  * digit_bits: 1 or 4. byte_bits: 8. bytes_per_line: 1 to 64. 1, 8, 8 gives the Rust's bindump and
  * 4, 8, 16 its hexdump.
  * Refusals 1, 2 and 8. */

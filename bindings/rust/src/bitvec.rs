@@ -3,7 +3,8 @@
 use crate::slices::{self, ABSENT};
 use crate::{Refusal, Span, MAX_BITS};
 
-/// An image of bits with its spans. Customasm's `util::BitVec`, but for what needs its `BigInt`.
+/// An image of bits with its spans. It stands for customasm's `util::BitVec`; the README says what
+/// of that is left out.
 ///
 /// An image may grow past [`MAX_BITS`], where every export refuses it ([`Refusal::ImageSize`]). Its
 /// length is then still counted, but bits from there on are not kept and read as zero, so that no

@@ -112,8 +112,9 @@ impl BitVec {
     }
 
     /// A dump with addresses and characters: digits of 1 or 4 bits, bytes of 8, and 1 to 64 bytes
-    /// on a line. The number of lines is rounded down, so that bits past the last line are not
-    /// shown. Refusal 2 for other numbers.
+    /// on a line. There are as many lines as the image's whole bytes need, but at least one, so
+    /// that bits of a last part of a byte that would start the next line are not shown. Refusal 2
+    /// for other numbers.
     pub fn format_dump(
         &self,
         digit_bits: usize,

@@ -1,8 +1,9 @@
 //! Riceshoal's image exporters for Rust: safe functions over its static library, each function of
 //! which is proved to meet its contract.
 //!
-//! [`BitVec`] has the methods of customasm's type of that name. They return the text, or a
-//! [`Refusal`] where the original would panic, not end, or give a file that is wrong:
+//! [`BitVec`] has methods of customasm's type of that name; the README says which are left out. An
+//! export returns the text, or a [`Refusal`] where the original would panic, not end, or give a file
+//! that is wrong, and where a limit is passed:
 //!
 //! ```
 //! use riceshoal::{BitVec, Refusal, Span};
