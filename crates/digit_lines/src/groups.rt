@@ -30,7 +30,7 @@ impl<'a> DigitGroups<'a> {
     }
 
     // The digits of `count` groups, from `from` on, at the start of an array, which is made where it
-    // is used.
+    // is used. What it holds behind them is left free.
     #[inline(always)]
     pub fn block(self, from: BitOffset, count: usize) -> [u8; 1024]
         requires { (count * self.size ≤ 1024) × (from.0 + count * self.size * self.width.bits < 2 ^ 64) }

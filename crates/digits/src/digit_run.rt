@@ -30,7 +30,8 @@ impl<'a> DigitRun<'a> {
     }
 
     // The whole bytes that it begins with, at most `most`, where it begins with a byte of the image or
-    // at its end. As many as are whole: `Image::whole` has none where one of them is not.
+    // at its end. As many as are whole: `Image::whole` has none where one of them is not. Whether it finds
+    // them, and how many, is left free: too few cost time alone.
     pub fn whole(self, most: usize) -> Option<WholeBytes<'a>>
         ensures { IfSome result (λ b. (b.image ≡ self.entry.image) × (b.first * 8 ≡ self.entry.from.0) × (b.count ≤ most)) }
     {
@@ -47,7 +48,7 @@ impl<'a> DigitRun<'a> {
     }
 
     // How many times eight of its digits can be cut out of eight bytes each: where a digit has bits, and
-    // the bytes are whole.
+    // the bytes are whole. Whether it says so, and how many, is left free too.
     pub fn eights(self) -> Option<usize>
         ensures { IfSome result (λ words. (words * 8 ≤ self.entry.count) × ((self.entry.from.0 / 8 + words * self.entry.width.bits + 8) * 8 ≤ self.entry.image.len) × (self.entry.from.0 / 8 + words * self.entry.width.bits + 8 ≤ length self.entry.image.bytes.now) × (0 < self.entry.width.bits)) }
     {

@@ -11,7 +11,8 @@ use Rattle.format_dump.specs.declared.DumpOptions.{DumpOptions}
 unfoldable pub in_range : DumpOptions → Bool
 in_range o = (eqb o.digit_bits 1 || eqb o.digit_bits 4) && (eqb o.byte_bits 8 && not (outside 1 64 o.bytes_per_line))
 
--- The line count, which is not rounded up.
+-- The line count: (bits + 8 * (n - 1)) / (8 * n), rounded down, and 1 below 8 bits. So bits of a part of
+-- a byte that would start a line are not shown.
 unfoldable pub dump_lines : ℕ → ℕ → ℕ
 dump_lines len n = cond (ltb len 8) 1 ((len + 8 * (n - 1)) / (8 * n))
 
