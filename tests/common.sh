@@ -91,13 +91,15 @@ has_bigint() {
     return 1
 }
 
-# Prints the folder of the Rust: beside this repository, else beside the one that it is a clone of.
+# Prints the folder of the Rust: beside this repository, or beside the one that it is a clone of.
 rust_folder() {
     folder=../shared/docs/src/src
-    for repository in "$root" "$(git -C "$root" config remote.origin.url || :)"; do
-        [ ! -d "$repository/$folder" ] || break
-    done
-    echo "$repository/$folder"
+    origin=$(git -C "$root" config remote.origin.url 2>/dev/null || :)
+    if [ ! -d "$root/$folder" ] && [ -d "$origin/$folder" ]; then
+        echo "$origin/$folder"
+    else
+        echo "$root/$folder"
+    fi
 }
 
 # Sets CUSTOMASM_SRC to the folder of the Rust. The argument is a function that is told what cannot be
