@@ -94,25 +94,43 @@ fn annotated(row: &Row, image: Image, lent: &Lent, out: &mut [u8]) -> Option<Exp
     })
 }
 
+// The exporters that take an image and nothing else.
+fn without_options(row: &Row, image: Image, out: &mut [u8]) -> Option<Export> {
+    match row.name {
+        "binary" => binary(row, image, out),
+        "binstr" => Some(format_plain::format_binstr(image, out)),
+        "hexstr" => Some(format_plain::format_hexstr(image, out)),
+        "mif" => Some(format_mif::format_mif(image, out)),
+        "bindump" => Some(format_dump::format_bindump(image, out)),
+        "hexdump" => Some(format_dump::format_hexdump(image, out)),
+        _ => None,
+    }
+}
+
+// The exporters that take a number too.
+fn with_number(row: &Row, image: Image, out: &mut [u8]) -> Option<Export> {
+    match row.name {
+        "str" => Some(format_plain::format_str(image, row.number("bits_per_digit")?, out)),
+        "readmemb" => Some(format_readmem::format_readmemb(image, row.number("width")?, out)),
+        "readmemh" => Some(format_readmem::format_readmemh(image, row.number("width")?, out)),
+        "c_array" => Some(format_c_array::format_c_array(image, row.number("radix")?, out)),
+        "logisim" => Some(format_logisim::format_logisim(
+            image,
+            row.number("bits_per_chunk")?,
+            out,
+        )),
+        _ => without_options(row, image, out),
+    }
+}
+
 // The export that a row names.
 pub(crate) fn export(row: &Row, image: Image, lent: &Lent, out: &mut [u8]) -> Option<Export> {
-    Some(match row.name {
-        "binary" => binary(row, image, out)?,
-        "str" => format_plain::format_str(image, row.number("bits_per_digit")?, out),
-        "binstr" => format_plain::format_binstr(image, out),
-        "hexstr" => format_plain::format_hexstr(image, out),
-        "readmemb" => format_readmem::format_readmemb(image, row.number("width")?, out),
-        "readmemh" => format_readmem::format_readmemh(image, row.number("width")?, out),
-        "separator" => separator(row, image, out)?,
-        "c_array" => format_c_array::format_c_array(image, row.number("radix")?, out),
-        "list" => list(row, image, out)?,
-        "mif" => format_mif::format_mif(image, out),
-        "logisim" => format_logisim::format_logisim(image, row.number("bits_per_chunk")?, out),
-        "bindump" => format_dump::format_bindump(image, out),
-        "hexdump" => format_dump::format_hexdump(image, out),
-        "dump" => dump(row, image, out)?,
-        "intelhex" => intelhex(row, image, lent, out)?,
-        "annotated" => annotated(row, image, lent, out)?,
-        _ => return None,
-    })
+    match row.name {
+        "separator" => separator(row, image, out),
+        "list" => list(row, image, out),
+        "dump" => dump(row, image, out),
+        "intelhex" => intelhex(row, image, lent, out),
+        "annotated" => annotated(row, image, lent, out),
+        _ => with_number(row, image, out),
+    }
 }

@@ -70,17 +70,17 @@ fn print_wrong(rt: &impl Print, tried: &[Tried]) -> io::Result<()> {
     Ok(())
 }
 
-// Prints how many of an exporter's rows come out, where there are any.
-fn print_count(rt: &impl Print, path: &str, exporter: &str, tried: &[Tried]) -> io::Result<()> {
-    let rows = tried.iter().filter(|row| row.is_of(exporter)).count();
-    let right = tried
-        .iter()
-        .filter(|row| row.right && row.is_of(exporter))
-        .count();
-    if rows == 0 {
-        return Ok(());
+// How many rows of an exporter there are, and how many of them come out; of all where it is "".
+fn count(tried: &[Tried], exporter: &str) -> (usize, usize) {
+    let mut rows = 0usize;
+    let mut right = 0usize;
+    for tried in tried {
+        if exporter.is_empty() || tried.is_of(exporter) {
+            rows = rows.saturating_add(1);
+            right = right.saturating_add(usize::from(tried.right));
+        }
     }
-    println!(rt; "{path}: {exporter} {right} of {rows}")
+    (right, rows)
 }
 
 fn run_file(rt: &(impl Files + Print + AllocGlobal), path: &str) -> io::Result<()> {
@@ -88,10 +88,12 @@ fn run_file(rt: &(impl Files + Print + AllocGlobal), path: &str) -> io::Result<(
     let tried = run(rt.alloc(), &record)?;
     print_wrong(rt, &tried)?;
     for exporter in EXPORTERS {
-        print_count(rt, path, exporter, &tried)?;
+        let (right, rows) = count(&tried, exporter);
+        if 0 < rows {
+            println!(rt; "{path}: {exporter} {right} of {rows}")?;
+        }
     }
-    let rows = tried.len();
-    let right = tried.iter().filter(|row| row.right).count();
+    let (right, rows) = count(&tried, "");
     println!(rt; "{path}: {right} of {rows} rows come out")
 }
 

@@ -3,6 +3,12 @@
 use std::alloc::Global;
 use std::str::FromStr;
 
+// The keys that there are.
+const KEYS: &str = "bits image zeros text room refused value padded spans count as blocks width \
+    bits_per_digit radix separator base digits_per_group groups_per_group2 before after between \
+    between2 bits_per_chunk digit_bits byte_bits bytes_per_line address_unit addr_base \
+    display_labels firmware protocol";
+
 // A word of a row, with the bytes that its value says, if it says bytes.
 #[derive(Drop)]
 struct Word<'a> {
@@ -15,6 +21,15 @@ struct Word<'a> {
 pub(crate) struct Row<'a> {
     pub(crate) name: &'a str,
     words: Vec<Word<'a>>,
+}
+
+fn is_known(key: &str) -> bool {
+    for known in KEYS.split(' ') {
+        if known == key {
+            return true;
+        }
+    }
+    false
 }
 
 fn nibble(digit: u8) -> Option<u8> {
@@ -85,6 +100,9 @@ impl<'a> Row<'a> {
         let mut words = Vec::new(alloc);
         for part in parts {
             let (key, value) = part.split_once('=')?;
+            if !is_known(key) {
+                return None;
+            }
             let bytes = decode(alloc, value);
             words.push(Word { key, value, bytes }).ok()?;
         }
