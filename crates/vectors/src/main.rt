@@ -1,88 +1,103 @@
-// Replays recorded answers of the Rust through the library. Standard input is the record, which
-// `tests/compare/run --vectors` made: for each answer a line `KIND OPTION OPTION2 OPTION3 STRING
-// STRING2 STRING3 STRING4 BITS IMAGE TEXT`, numbers in decimal, bytes in hexadecimal, `-` for none.
-// Prints a line with a count for each exporter, and for those that take spans one through records.
+// Runs the rows of two records through the library: examples.txt, the examples of document 01 and
+// published ones, and rust.txt, answers of the Rust, which `tests/compare/run --vectors` made. Prints
+// each row that does not come out, and how many do.
 #![tactic(auto)]
 
-mod exports;
-mod line;
-mod tables;
+mod call;
+mod compare;
+mod row;
+mod span_list;
 
-use exports::export;
-use line::{Kind, Line};
-use outcome::Refusal;
+use compare::comes_out;
 use std::alloc::{AllocError, Global};
-use std::io;
-use tables::decode;
+use std::rt::Files;
+use std::{fs, io};
 
-// What stands in the output buffer before a call.
-const OLD: u8 = 90;
+// The exporters, in the order in which they are reported.
+const EXPORTERS: [&str; 17] = [
+    "binary",
+    "str",
+    "binstr",
+    "hexstr",
+    "readmemb",
+    "readmemh",
+    "separator",
+    "c_array",
+    "list",
+    "mif",
+    "logisim",
+    "bindump",
+    "hexdump",
+    "dump",
+    "intelhex",
+    "annotated",
+    "get_blocks",
+];
 
-// How long the output buffer is.
-const ROOM: usize = 4200;
-
-// Whether a call into a room of `room` bytes gives the recorded text where that fits, and else refusal
-// 8 with its length. All other bytes of the buffer are as they were.
-fn agrees_in(
-    alloc: Global,
-    kind: Kind,
-    line: Line,
-    text: &[u8],
-    room: usize,
-) -> Result<bool, AllocError> {
-    let mut out = vec![in alloc; OLD; ROOM]?;
-    let Some(lent) = out.as_mut_slice().get_mut(..room) else {
-        return Ok(false);
-    };
-    let answer = export(alloc, kind, line, lent)?;
-    let (expected, front) = if text.len() <= room {
-        (Ok(text.len()), text)
-    } else {
-        (Err(Refusal::NoRoom(text.len())), &text[..0])
-    };
-    let mut buffer = front.to_vec(alloc)?;
-    buffer.resize(ROOM, OLD)?;
-    Ok(answer == expected && out == buffer)
+// A row, and whether it comes out.
+#[derive(Clone, Copy)]
+struct Tried<'a> {
+    row: &'a str,
+    right: bool,
 }
 
-// Whether the recorded answer is the library's: in a room that the text fills, in one that is a byte
-// too small (the text's own where it is empty), and in a large one.
-fn replay(alloc: Global, kind: Kind, line: Line) -> Result<bool, AllocError> {
-    let text = decode(alloc, line.text)?;
-    let n = text.len();
-    for room in [n, n.saturating_sub(1), ROOM] {
-        if !agrees_in(alloc, kind, line, &text, room)? {
-            return Ok(false);
+impl Tried<'_> {
+    fn is_of(&self, exporter: &str) -> bool {
+        self.row.split(' ').next() == Some(exporter)
+    }
+}
+
+// Runs the rows of a record: its lines that are not empty and no comments.
+fn run(alloc: Global, record: &str) -> Result<Vec<Tried>, AllocError> {
+    let mut tried = Vec::new(alloc);
+    for row in record.split('\n') {
+        if !row.is_empty() && !row.starts_with('#') {
+            let right = comes_out(alloc, row).unwrap_or(false);
+            tried.push(Tried { row, right })?;
         }
     }
-    Ok(true)
+    Ok(tried)
 }
 
-// Whether a line of the record can be read, and its answer is the library's.
-fn replays(alloc: Global, kind: Kind, text: &str) -> Result<bool, AllocError> {
-    match Line::parse(text) {
-        Some(line) => replay(alloc, kind, line),
-        None => Ok(false),
+// Prints the rows that do not come out.
+fn print_wrong(rt: &impl Print, tried: &[Tried]) -> io::Result<()> {
+    for tried in tried {
+        if !tried.right {
+            let row = tried.row;
+            println!(rt; "WRONG: {row}")?;
+        }
     }
+    Ok(())
 }
 
-// Replays the answers of one exporter and prints how many were equal.
-fn report(rt: &(impl Print + AllocGlobal), kind: Kind, record: &str) -> io::Result<()> {
-    let alloc = rt.alloc();
-    let answers: Vec<bool> = record
-        .lines()
-        .filter(|text| text.starts_with(kind.letter()))
-        .map(|text| replays(alloc, kind, text))
-        .try_collect(alloc)?;
-    let lines = answers.len();
-    let equal = answers.iter().filter(|equal| **equal).count();
-    println!(rt; "{kind}: {equal} of {lines} recorded answers equal")
+// How many rows of an exporter there are, and how many of them come out; of all where it is "".
+fn count(tried: &[Tried], exporter: &str) -> (usize, usize) {
+    let mut rows = 0usize;
+    let mut right = 0usize;
+    for tried in tried {
+        if exporter.is_empty() || tried.is_of(exporter) {
+            rows = rows.saturating_add(1);
+            right = right.saturating_add(usize::from(tried.right));
+        }
+    }
+    (right, rows)
+}
+
+fn run_file(rt: &(impl Files + Print + AllocGlobal), path: &str) -> io::Result<()> {
+    let record = fs::read_to_string(rt, path)?;
+    let tried = run(rt.alloc(), &record)?;
+    print_wrong(rt, &tried)?;
+    for exporter in EXPORTERS {
+        let (right, rows) = count(&tried, exporter);
+        if 0 < rows {
+            println!(rt; "{path}: {exporter} {right} of {rows}")?;
+        }
+    }
+    let (right, rows) = count(&tried, "");
+    println!(rt; "{path}: {right} of {rows} rows come out")
 }
 
 fn main(rt: HostRuntime) -> io::Result<()> {
-    let record = io::read_to_string(rt.alloc(), rt.stdin())?;
-    for kind in Kind::ALL {
-        report(&rt, kind, &record)?;
-    }
-    Ok(())
+    run_file(&rt, "examples.txt")?;
+    run_file(&rt, "rust.txt")
 }

@@ -91,19 +91,6 @@ impl Columns {
         (0..self.lens().into_iter().min().unwrap()).map(|place| self.row(place))
     }
 
-    /// The rows as bytes, 28 each: the address has eight and each other number four, the low byte
-    /// first.
-    pub fn table(&self) -> Vec<u8> {
-        let mut table = Vec::new();
-        for row in self.rows() {
-            table.extend([row.offset, row.size].into_iter().flat_map(u32::to_le_bytes));
-            table.extend(row.addr.to_le_bytes());
-            let place = [row.file.into(), row.start, row.end].map(|number: u64| number as u32);
-            table.extend(place.into_iter().flat_map(u32::to_le_bytes));
-        }
-        table
-    }
-
     /// The number and the value of refusal 3.
     fn unfit(&self) -> Option<(u32, u64)> {
         let lens = self.lens();

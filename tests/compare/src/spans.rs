@@ -44,12 +44,6 @@ impl Spans {
         self.present().map(|(_, offset, size)| (offset + size) as usize).max().unwrap_or(0)
     }
 
-    /// The rows as bytes, each number with its low byte first.
-    pub fn table(&self) -> Vec<u8> {
-        let numbers = self.rows().flat_map(|(offset, size)| [offset, size]);
-        numbers.flat_map(u32::to_le_bytes).collect()
-    }
-
     /// The Rust's image with these spans.
     pub fn rust(&self, image: &BitVec) -> BitVec {
         let mut rust = copy(image);

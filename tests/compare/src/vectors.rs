@@ -1,4 +1,4 @@
-//! A sample of the Rust's answers as lines of text, for a test that cannot run the Rust.
+//! A sample of the Rust's answers as rows of text, for a test that cannot run the Rust.
 
 use crate::input::{hex, Image, Rng, RANDOM, SEED};
 use crate::listing::{self, Listing};
@@ -12,42 +12,16 @@ use std::io::{self, Write};
 
 const HEAD: &str = "\
 # Answers of the Rust of customasm (util/bitvec_format.rs), made by tests/compare/run --vectors.
-# A line is: KIND OPTION OPTION2 OPTION3 STRING STRING2 STRING3 STRING4 BITS IMAGE TEXT
-# KIND     what is called with which options and strings; the others are 0 and -
-#          b format_binary
-#          s format_str        OPTION the bits per digit
-#          m format_readmemb   OPTION the width
-#          h format_readmemh   OPTION the width
-#          p format_separator  OPTION the radix, STRING the separator
-#          c format_c_array    OPTION the radix
-#          l format_list       OPTION the base, OPTION2 the digits per group,
-#                              OPTION3 the groups per second group, STRING what stands before,
-#                              STRING2 after, STRING3 between, STRING4 second between
-#          i format_mif
-#          g format_logisim    OPTION the bits per chunk
-#          d format_dump       OPTION the bits of a digit, OPTION2 of a byte,
-#                              OPTION3 the bytes per line
-#          x format_intelhex   OPTION the address unit, STRING the spans: for each its offset
-#                              (4294967295 for none) and its size, four bytes each, the low first
-#          a format_annotated  OPTION the base, OPTION2 the address base, OPTION3 the digits per
-#                              group, STRING the spans: for each its offset (4294967295 for none),
-#                              size, address, file, start and end, the address of eight bytes and
-#                              the others of four, the low byte first, STRING2 the firmware's text,
-#                              STRING3 the protocol's, STRING4 the label switch, one byte
-# BITS     the length of the image in bits
-# IMAGE    its ceil(BITS / 8) bytes, at most 64; what stands past the last bit is random
-# TEXT     the answer's bytes, at most 4000
-# An OPTION and BITS are decimal. A STRING (at most 256 bytes), an IMAGE and a TEXT are bytes in
-# hexadecimal, or - for none.
+# examples.txt says what a row holds. An image has at most 64 bytes, and what stands past its last bit
+# is random; a text has at most 4,000 bytes.
 ";
 
-/// The most bytes of an image and of a text; the record is shorter than its limit.
+/// The most bytes of an image and of a text; the program that runs the rows has room for no longer one.
 const IMAGE: usize = 64;
 const TEXT: usize = 4000;
-const RECORD: usize = 524_288;
-/// The most spans, whose table is a string, of HEX and of a listing.
-const SPANS: usize = LONGEST / 8;
-const LISTED: usize = LONGEST / 28;
+/// The most spans of HEX and of a listing.
+const SPANS: usize = 32;
+const LISTED: usize = 9;
 
 const WIDTHS: [usize; 30] = [
     1, 2, 3, 4, 5, 6, 7, 8, 9, 10, 11, 12, 13, 15, 16, 17, 20, 24, 31, 32, 33, 48, 63, 64, 65, 100,
@@ -73,9 +47,9 @@ const NOT_EMPTY: &[usize] = LENGTHS.split_at(1).1;
 /// The least one alone.
 const LEAST: &[usize] = &[0];
 
-/// A kind of lines.
+/// A kind of rows.
 struct Kind {
-    letter: char,
+    name: &'static str,
     lengths: &'static [usize],
     rust: fn(&BitVec, &Call) -> Vec<u8>,
 }
@@ -94,15 +68,14 @@ pub fn print() -> io::Result<()> {
     dump(&mut record);
     intelhex(&mut record);
     annotated(&mut record);
-    assert!(record.text.len() < RECORD);
     io::stdout().lock().write_all(record.text.as_bytes())
 }
 
 fn plain(record: &mut Record) {
     let rust = |image: &BitVec, _: &Call| image.format_binary(&mut Report::new());
-    record.lines(Kind { letter: 'b', lengths: LEAST, rust }, &numbers(&[0]), 200);
+    record.rows(Kind { name: "binary", lengths: LEAST, rust }, &numbers(&[0]), 200);
     let rust = |image: &BitVec, call: &Call| image.format_str(call.numbers[0]).into();
-    record.lines(Kind { letter: 's', lengths: LEAST, rust }, &numbers(&[1, 2, 3, 4, 5]), 50);
+    record.rows(Kind { name: "str", lengths: LEAST, rust }, &numbers(&[1, 2, 3, 4, 5]), 50);
 }
 
 fn readmem(record: &mut Record) {
@@ -110,9 +83,9 @@ fn readmem(record: &mut Record) {
         FormatReadMemOptions { width: call.numbers[0] }
     }
     let rust = |image: &BitVec, call: &Call| image.format_readmemb(&width(call)).into();
-    record.lines(Kind { letter: 'm', lengths: LEAST, rust }, &numbers(&WIDTHS), 6);
+    record.rows(Kind { name: "readmemb", lengths: LEAST, rust }, &numbers(&WIDTHS), 6);
     let rust = |image: &BitVec, call: &Call| image.format_readmemh(&width(call)).into();
-    record.lines(Kind { letter: 'h', lengths: LEAST, rust }, &numbers(&WIDTHS), 8);
+    record.rows(Kind { name: "readmemh", lengths: LEAST, rust }, &numbers(&WIDTHS), 8);
 }
 
 fn list(record: &mut Record) {
@@ -120,24 +93,24 @@ fn list(record: &mut Record) {
         image.format_separator(call.numbers[0], &call.strings[0]).into()
     };
     let calls = separators(&mut record.rng);
-    record.lines(Kind { letter: 'p', lengths: LENGTHS, rust }, &calls, 1);
+    record.rows(Kind { name: "separator", lengths: LENGTHS, rust }, &calls, 1);
 
     let rust = |image: &BitVec, call: &Call| image.format_c_array(call.numbers[0]).into();
     let calls = RADIXES.map(|radix| Call { line: LINE, ..number(radix) });
-    record.lines(Kind { letter: 'c', lengths: NOT_EMPTY, rust }, &calls, 80);
+    record.rows(Kind { name: "c_array", lengths: NOT_EMPTY, rust }, &calls, 80);
 
     let rust = |image: &BitVec, call: &Call| {
         image.format_list(&options::list(call.numbers, &call.strings)).into()
     };
     let calls = lists(&mut record.rng);
-    record.lines(Kind { letter: 'l', lengths: LENGTHS, rust }, &calls, 1);
+    record.rows(Kind { name: "list", lengths: LENGTHS, rust }, &calls, 1);
 }
 
 fn memory(record: &mut Record) {
     let rust = |image: &BitVec, _: &Call| image.format_mif().into();
-    record.lines(Kind { letter: 'i', lengths: NOT_EMPTY, rust }, &numbers(&[0]), 150);
+    record.rows(Kind { name: "mif", lengths: NOT_EMPTY, rust }, &numbers(&[0]), 150);
     let rust = |image: &BitVec, call: &Call| image.format_logisim(call.numbers[0]).into();
-    record.lines(Kind { letter: 'g', lengths: LENGTHS, rust }, &numbers(&WIDTHS), 6);
+    record.rows(Kind { name: "logisim", lengths: LENGTHS, rust }, &numbers(&WIDTHS), 6);
 }
 
 fn dump(record: &mut Record) {
@@ -146,7 +119,7 @@ fn dump(record: &mut Record) {
         image.format_dump(digit, byte, bytes).into()
     };
     let calls: Vec<Call> = (0..160).map(dump_call).collect();
-    record.lines(Kind { letter: 'd', lengths: LENGTHS, rust }, &calls, 1);
+    record.rows(Kind { name: "dump", lengths: LENGTHS, rust }, &calls, 1);
 }
 
 fn intelhex(record: &mut Record) {
@@ -154,7 +127,7 @@ fn intelhex(record: &mut Record) {
         call.spans.rust(image).format_intelhex(call.numbers[0]).into()
     };
     let calls = span_lists(&mut record.rng);
-    record.lines(Kind { letter: 'x', lengths: LENGTHS, rust }, &calls, 1);
+    record.rows(Kind { name: "intelhex", lengths: LENGTHS, rust }, &calls, 1);
 }
 
 fn annotated(record: &mut Record) {
@@ -162,7 +135,7 @@ fn annotated(record: &mut Record) {
     // A seed of its own: the lines do not depend on those before them.
     record.rng = Rng::new(SEED + 2);
     let calls = listings(&mut record.rng);
-    record.lines(Kind { letter: 'a', lengths: LENGTHS, rust }, &calls, 1);
+    record.rows(Kind { name: "annotated", lengths: LENGTHS, rust }, &calls, 1);
 }
 
 /// All bytes per line with one of the digits, then few with both.
@@ -233,7 +206,7 @@ fn span_lists(rng: &mut Rng) -> Vec<Call> {
 }
 
 /// Lists of spans with every address base, mostly of few spans; some have the most. None is refused,
-/// and each number is one that its bytes in the record hold.
+/// and no place in a text is longer than ten digits.
 fn listings(rng: &mut Rng) -> Vec<Call> {
     let mut calls = Vec::new();
     while calls.len() < 100 {
@@ -258,22 +231,83 @@ fn listings(rng: &mut Rng) -> Vec<Call> {
     calls
 }
 
-/// What stands for the strings of a call: those of a list, or the spans.
-fn strings(letter: char, call: &Call) -> [String; 4] {
-    let mut strings = call.strings.each_ref().map(|text| hex(text.as_bytes()));
-    if letter == 'x' {
-        strings[0] = hex(&call.spans.table());
-    } else if letter == 'a' {
-        let [firmware, protocol] = call.listing.texts.each_ref().map(|text| hex(text));
-        let spans = hex(&call.listing.columns.table());
-        strings = [spans, firmware, protocol, hex(&[call.listing.labels])];
+/// Bytes in quotes.
+fn quoted(bytes: &[u8]) -> String {
+    let chars = bytes.iter().map(|&byte| match byte {
+        b'\n' => "\\n".to_string(),
+        b'\t' => "\\t".to_string(),
+        b'\\' => "\\\\".to_string(),
+        b'"' | ..=0x1f | 0x7f.. => format!("\\x{byte:02x}"),
+        _ => char::from(byte).to_string(),
+    });
+    format!("\"{}\"", chars.collect::<String>())
+}
+
+/// The offset and the size of a span.
+fn span(offset: u32, size: u32) -> String {
+    if offset == ABSENT {
+        format!("-,{size}")
+    } else {
+        format!("{offset},{size}")
     }
-    strings
+}
+
+/// The words of a row that come first: its numbers.
+fn number_words(name: &str, call: &Call) -> String {
+    let keys: &[&str] = match name {
+        "str" => &["bits_per_digit"],
+        "readmemb" | "readmemh" => &["width"],
+        "separator" | "c_array" => &["radix"],
+        "list" => &["base", "digits_per_group", "groups_per_group2"],
+        "logisim" => &["bits_per_chunk"],
+        "dump" => &["digit_bits", "byte_bits", "bytes_per_line"],
+        "intelhex" => &["address_unit"],
+        "annotated" => &["base", "addr_base", "digits_per_group", "display_labels"],
+        _ => &[],
+    };
+    let numbers = call.numbers.into_iter().chain([call.listing.labels.into()]);
+    keys.iter().zip(numbers).map(|(key, number)| format!(" {key}={number}")).collect()
+}
+
+/// The words of a row between its numbers and its image.
+fn string_words(name: &str, call: &Call) -> String {
+    let keys: &[&str] = match name {
+        "separator" => &["separator"],
+        "list" => &["before", "after", "between", "between2"],
+        _ => &[],
+    };
+    let words = keys.iter().zip(&call.strings);
+    words.map(|(key, text)| format!(" {key}={}", quoted(text.as_bytes()))).collect()
+}
+
+/// The words of a row between its image and its text.
+fn span_words(name: &str, call: &Call) -> String {
+    let rows: String = match name {
+        "intelhex" => {
+            call.spans.rows().map(|(offset, size)| format!("({})", span(offset, size))).collect()
+        }
+        "annotated" => {
+            let rows = call.listing.columns.rows();
+            rows.map(|row| {
+                let span = span(row.offset, row.size);
+                format!("({span},{},{},{},{})", row.addr, row.file, row.start, row.end)
+            })
+            .collect()
+        }
+        _ => return String::new(),
+    };
+    let rows = if rows.is_empty() { "-" } else { &rows };
+    if name == "intelhex" {
+        return format!(" spans={rows}");
+    }
+    let [firmware, protocol] = call.listing.texts.each_ref().map(|text| quoted(text));
+    format!(" spans={rows} firmware={firmware} protocol={protocol}")
 }
 
 impl Record {
-    /// `count` lines of a kind for each of the calls.
-    fn lines(&mut self, kind: Kind, calls: &[Call], count: usize) {
+    /// `count` rows of a kind for each of the calls.
+    fn rows(&mut self, kind: Kind, calls: &[Call], count: usize) {
+        let name = kind.name;
         for (place, call) in calls.iter().enumerate() {
             for n in place * count..(place + 1) * count {
                 let bits = length(&mut self.rng, n, call, kind.lengths);
@@ -281,10 +315,11 @@ impl Record {
                 let lent = image.lend(&mut self.rng, RANDOM, 0);
                 let text = (kind.rust)(&image.rust, call);
                 assert!(lent.len() <= IMAGE && text.len() <= TEXT);
-                let numbers = call.numbers.map(|number| number.to_string()).join(" ");
-                let strings = strings(kind.letter, call).join(" ");
-                let (letter, lent, text) = (kind.letter, hex(&lent), hex(&text));
-                self.text += &format!("{letter} {numbers} {strings} {bits} {lent} {text}\n");
+                let options = number_words(name, call) + &string_words(name, call);
+                let (image, spans) = (hex(&lent), span_words(name, call));
+                let text = if name == "binary" { hex(&text) } else { quoted(&text) };
+                self.text +=
+                    &format!("{name}{options} bits={bits} image={image}{spans} text={text}\n");
             }
         }
     }
