@@ -1,136 +1,147 @@
-// The call that a row names: its exporter with its options, strings and spans. None is what cannot be
-// read, as in `row`.
-use crate::row::Row;
-use crate::span_list::Columns;
+// The call that a row names: its exporter with its options, strings and spans.
+use crate::exporter::Exporter;
+use crate::row::{bytes, number};
+use crate::span_list::{records, small, span_column, words};
 use bitvec::Image;
 use format_dump::DumpOptions;
 use format_list::{FormatListOptions, ListStrings};
-use listing::FormatAnnotatedOptions;
+use listing::{FormatAnnotatedOptions, SpanColumns};
 use outcome::Export;
 use sources::Sources;
-use spans::Span;
 
-// The spans that are lent, as numbers or as records.
-#[derive(Drop)]
-pub(crate) enum Lent {
-    Nothing,
-    Numbers(Columns),
-    Records(Vec<Span>),
+fn binary(image: Image, out: &mut [u8]) -> Export {
+    format_plain::format_binary(image, out).map(|binary| binary.length)
 }
 
-// None too where the answer does not say of its padding what the row says; a refusal never says yes.
-fn binary(row: &Row, image: Image, out: &mut [u8]) -> Option<Export> {
-    let answer = format_plain::format_binary(image, out);
-    let padded = answer.is_ok_and(|binary| binary.padded);
-    let told = match row.value("padded") {
-        None => true,
-        Some("0") => !padded,
-        Some("1") => padded == answer.is_ok(),
-        Some(_) => false,
-    };
-    told.then_some(answer.map(|binary| binary.length))
+fn separator(row: &[u8], image: Image, out: &mut [u8]) -> Export {
+    let radix = number(row, b"radix=");
+    let separator = bytes(row, b"separator=", 0);
+    format_separator::format_separator(image, radix, separator.slice(), out)
 }
 
-fn separator(row: &Row, image: Image, out: &mut [u8]) -> Option<Export> {
-    let separator = row.bytes("separator")?;
-    let radix = row.number("radix")?;
-    Some(format_separator::format_separator(image, radix, separator, out))
-}
-
-fn list(row: &Row, image: Image, out: &mut [u8]) -> Option<Export> {
+fn list(row: &[u8], image: Image, out: &mut [u8]) -> Export {
     let options = FormatListOptions {
-        base: row.number("base")?,
-        digits_per_group: row.number("digits_per_group")?,
-        groups_per_group2: row.number("groups_per_group2")?,
+        base: number(row, b"base="),
+        digits_per_group: number(row, b"digits_per_group="),
+        groups_per_group2: number(row, b"groups_per_group2="),
     };
+    let before = bytes(row, b"before=", 0);
+    let after = bytes(row, b"after=", 0);
+    let between = bytes(row, b"between=", 0);
+    let between2 = bytes(row, b"between2=", 0);
     let strings = ListStrings {
-        before: row.bytes("before")?,
-        after: row.bytes("after")?,
-        between: row.bytes("between")?,
-        between2: row.bytes("between2")?,
+        before: before.slice(),
+        after: after.slice(),
+        between: between.slice(),
+        between2: between2.slice(),
     };
-    Some(format_list::format_list(image, options, strings, out))
+    format_list::format_list(image, options, strings, out)
 }
 
-fn dump(row: &Row, image: Image, out: &mut [u8]) -> Option<Export> {
+fn dump(row: &[u8], image: Image, out: &mut [u8]) -> Export {
     let options = DumpOptions {
-        digit_bits: row.number("digit_bits")?,
-        byte_bits: row.number("byte_bits")?,
-        bytes_per_line: row.number("bytes_per_line")?,
+        digit_bits: number(row, b"digit_bits="),
+        byte_bits: number(row, b"byte_bits="),
+        bytes_per_line: number(row, b"bytes_per_line="),
     };
-    Some(format_dump::format_dump(image, options, out))
+    format_dump::format_dump(image, options, out)
 }
 
-fn intelhex(row: &Row, image: Image, lent: &Lent, out: &mut [u8]) -> Option<Export> {
-    let unit = row.number("address_unit")?;
-    Some(match lent {
-        Lent::Nothing => return None,
-        Lent::Numbers(spans) => {
-            intelhex::format_intelhex(image, &spans.offsets, &spans.sizes, unit, out)
-        }
-        Lent::Records(spans) => hex_of_spans::format_intelhex(image, spans, unit, out),
-    })
+fn intelhex(row: &[u8], over_records: bool, image: Image, out: &mut [u8]) -> Export {
+    let unit = number(row, b"address_unit=");
+    let offsets = span_column(row, 0);
+    if over_records {
+        let records = records(row);
+        return hex_of_spans::format_intelhex(image, &records[..offsets.count], unit, out);
+    }
+    let sizes = span_column(row, 1);
+    let offset_words = words(&offsets);
+    let size_words = words(&sizes);
+    intelhex::format_intelhex(
+        image,
+        &offset_words[..offsets.count],
+        &size_words[..sizes.count],
+        unit,
+        out,
+    )
 }
 
-fn annotated(row: &Row, image: Image, lent: &Lent, out: &mut [u8]) -> Option<Export> {
+fn annotated_of_numbers(
+    row: &[u8],
+    image: Image,
+    sources: Sources,
+    options: FormatAnnotatedOptions,
+    out: &mut [u8],
+) -> Export {
+    let offsets = span_column(row, 0);
+    let sizes = span_column(row, 1);
+    let addrs = span_column(row, 2);
+    let files = span_column(row, 3);
+    let starts = span_column(row, 4);
+    let ends = span_column(row, 5);
+    let offset_words = words(&offsets);
+    let size_words = words(&sizes);
+    let file_bytes = small(&files);
+    let columns = SpanColumns {
+        offsets: &offset_words[..offsets.count],
+        sizes: &size_words[..sizes.count],
+        addrs: &addrs.all[..addrs.count],
+        files: &file_bytes[..files.count],
+        starts: &starts.all[..starts.count],
+        ends: &ends.all[..ends.count],
+    };
+    annotated::format_annotated(image, columns, sources, options, out)
+}
+
+fn annotated(row: &[u8], over_records: bool, image: Image, out: &mut [u8]) -> Export {
     let options = FormatAnnotatedOptions {
-        base: row.number("base")?,
-        addr_base: row.number("addr_base")?,
-        digits_per_group: row.number("digits_per_group")?,
-        display_labels: row.number("display_labels")?,
+        base: number(row, b"base="),
+        addr_base: number(row, b"addr_base="),
+        digits_per_group: number(row, b"digits_per_group="),
+        display_labels: number(row, b"display_labels=").min(255) as u8,
     };
+    let firmware = bytes(row, b"firmware=", 0);
+    let protocol = bytes(row, b"protocol=", 0);
     let sources = Sources {
-        firmware: row.bytes("firmware")?,
-        protocol: row.bytes("protocol")?,
+        firmware: firmware.slice(),
+        protocol: protocol.slice(),
     };
-    Some(match lent {
-        Lent::Nothing => return None,
-        Lent::Numbers(spans) => {
-            annotated::format_annotated(image, spans.lent(), sources, options, out)
-        }
-        Lent::Records(spans) => {
-            listing_of_spans::format_annotated(image, spans, sources, options, out)
-        }
-    })
-}
-
-// The exporters that take an image and nothing else.
-fn without_options(row: &Row, image: Image, out: &mut [u8]) -> Option<Export> {
-    match row.name {
-        "binary" => binary(row, image, out),
-        "binstr" => Some(format_plain::format_binstr(image, out)),
-        "hexstr" => Some(format_plain::format_hexstr(image, out)),
-        "mif" => Some(format_mif::format_mif(image, out)),
-        "bindump" => Some(format_dump::format_bindump(image, out)),
-        "hexdump" => Some(format_dump::format_hexdump(image, out)),
-        _ => None,
+    if !over_records {
+        return annotated_of_numbers(row, image, sources, options, out);
     }
+    let count = span_column(row, 0).count;
+    let records = records(row);
+    listing_of_spans::format_annotated(image, &records[..count], sources, options, out)
 }
 
-// The exporters that take a number too.
-fn with_number(row: &Row, image: Image, out: &mut [u8]) -> Option<Export> {
-    match row.name {
-        "str" => Some(format_plain::format_str(image, row.number("bits_per_digit")?, out)),
-        "readmemb" => Some(format_readmem::format_readmemb(image, row.number("width")?, out)),
-        "readmemh" => Some(format_readmem::format_readmemh(image, row.number("width")?, out)),
-        "c_array" => Some(format_c_array::format_c_array(image, row.number("radix")?, out)),
-        "logisim" => Some(format_logisim::format_logisim(
-            image,
-            row.number("bits_per_chunk")?,
-            out,
-        )),
-        _ => without_options(row, image, out),
-    }
-}
-
-// The export that a row names.
-pub(crate) fn export(row: &Row, image: Image, lent: &Lent, out: &mut [u8]) -> Option<Export> {
-    match row.name {
-        "separator" => separator(row, image, out),
-        "list" => list(row, image, out),
-        "dump" => dump(row, image, out),
-        "intelhex" => intelhex(row, image, lent, out),
-        "annotated" => annotated(row, image, lent, out),
-        _ => with_number(row, image, out),
+// The export that a row names, its spans lent as numbers or as records.
+pub(crate) fn export(
+    exporter: Exporter,
+    row: &[u8],
+    over_records: bool,
+    image: Image,
+    out: &mut [u8],
+) -> Export {
+    match exporter {
+        Exporter::Binary => binary(image, out),
+        Exporter::Str => format_plain::format_str(image, number(row, b"bits_per_digit="), out),
+        Exporter::Binstr => format_plain::format_binstr(image, out),
+        Exporter::Hexstr => format_plain::format_hexstr(image, out),
+        Exporter::Readmemb => format_readmem::format_readmemb(image, number(row, b"width="), out),
+        Exporter::Readmemh => format_readmem::format_readmemh(image, number(row, b"width="), out),
+        Exporter::Separator => separator(row, image, out),
+        Exporter::CArray => format_c_array::format_c_array(image, number(row, b"radix="), out),
+        Exporter::List => list(row, image, out),
+        Exporter::Mif => format_mif::format_mif(image, out),
+        Exporter::Logisim => {
+            format_logisim::format_logisim(image, number(row, b"bits_per_chunk="), out)
+        }
+        Exporter::Dump => dump(row, image, out),
+        Exporter::Bindump => format_dump::format_bindump(image, out),
+        Exporter::Hexdump => format_dump::format_hexdump(image, out),
+        Exporter::Intelhex => intelhex(row, over_records, image, out),
+        // The blocks are no text: `compare` calls for them.
+        Exporter::Blocks => Ok(0),
+        Exporter::Annotated => annotated(row, over_records, image, out),
     }
 }

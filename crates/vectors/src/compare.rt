@@ -1,130 +1,141 @@
 // Whether a row comes out: whether the call gives the row's answer in each of its rooms, and leaves what
-// it may not write as it was. None is what cannot be read, as in `row`.
-use crate::call::{Lent, export};
-use crate::row::Row;
-use crate::span_list::{blocks, columns_of, records};
+// it may not write as it was.
+use crate::call::export;
+use crate::exporter::Exporter;
+use crate::row::{LONGEST, begins, bytes, has, number, number_or, value};
+use crate::span_list::{column, records, span_column};
 use bitvec::Image;
 use outcome::{Answer, Export};
-use spans::Span;
-use std::alloc::Global;
 
 // What stands in a buffer before a call, of bytes and of numbers.
 const OLD: u8 = 90;
 
 const OLD_NUMBER: u32 = 7;
 
-// How long a buffer is, which is longer than each text, and a slice of blocks.
-const ROOM: usize = 4200;
-
+// How long a slice of blocks is.
 const BLOCKS: usize = 8;
 
-// The row's refusal; or its text of `length` bytes where the room holds it, and else refusal 8.
-fn expected(row: &Row, length: usize, room: usize) -> Option<Answer> {
-    if row.has("refused") {
-        return Some(Answer {
-            number: row.number("refused")?,
-            value: row.number_or("value", 0)?,
-        });
+// Whether the answer is the row's refusal; or its text of `length` bytes where the room holds it, and else
+// refusal 8.
+fn answers(export: Export, row: &[u8], length: usize, room: usize) -> bool {
+    let answer = Answer::from(export);
+    if has(row, b"refused=") {
+        return answer.number as usize == number(row, b"refused=")
+            && answer.value == number_or(row, b"value=", 0);
     }
-    Some(Answer {
-        number: if length <= room { 0 } else { 8 },
-        value: length,
-    })
+    answer.number == (if length <= room { 0 } else { 8 }) && answer.value == length
 }
 
-fn same(export: Export, expected: Answer) -> bool {
-    let answer = Answer::from(export);
-    answer.number == expected.number && answer.value == expected.value
+// Whether a buffer has the text at its front, if it was written, and its old contents behind it.
+fn holds(out: &[u8; LONGEST], text: &[u8], written: bool) -> bool {
+    for place in 0..LONGEST {
+        let due = if written && place < text.len() {
+            text[place]
+        } else {
+            OLD
+        };
+        if out[place] != due {
+            return false;
+        }
+    }
+    true
 }
 
 // Whether a call into a room of `room` bytes comes out.
-fn export_agrees(row: &Row, image: Image, lent: &Lent, text: &[u8], room: usize) -> Option<bool> {
-    let mut out = [OLD; ROOM];
-    let answer = export(row, image, lent, out.get_mut(..room)?)?;
-    let expected = expected(row, text.len(), room)?;
-    let mut buffer = [OLD; ROOM];
-    if expected.number == 0 {
-        buffer.get_mut(..text.len())?.copy_from_slice(text);
-    }
-    Some(same(answer, expected) && out == buffer)
+fn export_agrees(
+    exporter: Exporter,
+    row: &[u8],
+    over_records: bool,
+    image: Image,
+    text: &[u8],
+    room: usize,
+) -> bool {
+    let mut out = [OLD; LONGEST];
+    let room = room.min(LONGEST);
+    let answer = export(exporter, row, over_records, image, &mut out[..room]);
+    let written = answer.is_ok();
+    answers(answer, row, text.len(), room) && holds(&out, text, written)
 }
 
 // Whether the call comes out in the row's room, or in one that the text fills, in one a byte shorter, or
 // of none where the text is empty, and in a large one.
-fn exports_agree(row: &Row, image: Image, lent: &Lent) -> Option<bool> {
-    let text = if row.has("refused") {
-        b""
-    } else {
-        row.bytes("text")?
-    };
+fn exports_agree(exporter: Exporter, row: &[u8], over_records: bool) -> bool {
+    let lent = bytes(row, b"image=", number_or(row, b"zeros=", 0));
+    let image = Image::new(lent.slice(), number(row, b"bits="));
+    let due = bytes(row, b"text=", 0);
+    let text = due.slice();
     let n = text.len();
-    let rooms = if row.has("room") {
-        [row.number("room")?; 3]
-    } else {
-        [n, n.saturating_sub(1), ROOM]
-    };
-    for room in rooms {
-        if !export_agrees(row, image, lent, text, room)? {
-            return Some(false);
-        }
-    }
-    Some(true)
+    let first = number_or(row, b"room=", n);
+    let second = number_or(row, b"room=", n.saturating_sub(1));
+    let last = number_or(row, b"room=", LONGEST);
+    export_agrees(exporter, row, over_records, image, text, first)
+        && export_agrees(exporter, row, over_records, image, text, second)
+        && export_agrees(exporter, row, over_records, image, text, last)
 }
 
-// Whether a slice has the numbers at its front, and what stood there behind them.
-fn holds(slice: &[u32; BLOCKS], numbers: &[u32]) -> bool {
-    let mut due = [OLD_NUMBER; BLOCKS];
-    match due.get_mut(..numbers.len()) {
-        None => false,
-        Some(front) => {
-            front.copy_from_slice(numbers);
-            *slice == due
-        }
-    }
+// Whether the binary file of a row says of its padding what the row says, if it does.
+fn padding_agrees(row: &[u8]) -> bool {
+    let said = value(row, b"padded=");
+    let lent = bytes(row, b"image=", 0);
+    let mut out = [OLD; LONGEST];
+    let answer = format_plain::format_binary(
+        Image::new(lent.slice(), number(row, b"bits=")),
+        &mut out,
+    );
+    let padded = answer.is_ok_and(|binary| binary.padded);
+    said.is_empty() || padded == begins(said, b"1")
 }
 
-// Whether the blocks of the records are the row's.
-fn blocks_agree(alloc: Global, row: &Row, spans: &[Span]) -> Option<bool> {
-    let room = row.number("room")?;
+// Whether a slice has number `k` of each of the row's blocks at its front, and what stood there behind
+// them.
+fn holds_blocks(found: &[u32; BLOCKS], row: &[u8], k: usize) -> bool {
+    let due = column(value(row, b"blocks="), k);
+    for place in 0..BLOCKS {
+        let number = if place < due.count {
+            due.all[place]
+        } else {
+            u64::from(OLD_NUMBER)
+        };
+        if u64::from(found[place]) != number {
+            return false;
+        }
+    }
+    true
+}
+
+// Whether the blocks of the row's spans, which are lent as records, are the row's.
+fn blocks_agree(row: &[u8]) -> bool {
+    let room = number(row, b"room=").min(BLOCKS);
+    let records = records(row);
     let mut offsets = [OLD_NUMBER; BLOCKS];
     let mut sizes = [OLD_NUMBER; BLOCKS];
-    let answer = hex_of_spans::get_blocks(spans, offsets.get_mut(..room)?, sizes.get_mut(..room)?);
-    let blocks = blocks(alloc, row)?;
-    let expected = expected(row, blocks.offsets.len(), room)?;
-    let held = holds(&offsets, &blocks.offsets) && holds(&sizes, &blocks.sizes);
-    Some(same(answer, expected) && held)
+    let answer = hex_of_spans::get_blocks(
+        &records[..span_column(row, 0).count],
+        &mut offsets[..room],
+        &mut sizes[..room],
+    );
+    let count = column(value(row, b"blocks="), 0).count;
+    answers(answer, row, count, room)
+        && holds_blocks(&offsets, row, 0)
+        && holds_blocks(&sizes, row, 1)
 }
 
-// Whether the export comes out.
-fn agrees(alloc: Global, row: &Row, lent: &Lent) -> Option<bool> {
-    if row.name == "get_blocks"
-        && let Lent::Records(spans) = lent
-    {
-        return blocks_agree(alloc, row, spans);
+// Whether a row comes out, its spans lent as numbers or as records.
+fn agrees(exporter: Exporter, row: &[u8], over_records: bool) -> bool {
+    match exporter {
+        Exporter::Blocks => blocks_agree(row),
+        Exporter::Binary => padding_agrees(row) && exports_agree(exporter, row, over_records),
+        _ => exports_agree(exporter, row, over_records),
     }
-    let mut bytes = vec![in alloc; 0; row.number_or("zeros", 0)?].ok()?;
-    bytes.extend_from_slice(row.bytes("image")?).ok()?;
-    exports_agree(row, Image::new(&bytes, row.number("bits")?), lent)
-}
-
-fn agrees_over_numbers(alloc: Global, row: &Row) -> Option<bool> {
-    agrees(alloc, row, &Lent::Numbers(columns_of(alloc, row)?))
-}
-
-fn agrees_over_records(alloc: Global, row: &Row) -> Option<bool> {
-    agrees(alloc, row, &Lent::Records(records(alloc, row)?))
 }
 
 // Whether a row comes out. Its spans are lent as numbers and then as records, unless it says which.
-pub(crate) fn comes_out(alloc: Global, line: &str) -> Option<bool> {
-    let row = Row::parse(alloc, line)?;
-    if !row.has("spans") {
-        return agrees(alloc, &row, &Lent::Nothing);
+pub(crate) fn comes_out(exporter: Exporter, row: &[u8]) -> bool {
+    if has(row, b"as=records") {
+        return agrees(exporter, row, true);
     }
-    match row.value("as") {
-        Some("numbers") => agrees_over_numbers(alloc, &row),
-        Some("records") => agrees_over_records(alloc, &row),
-        Some(_) => None,
-        None => Some(agrees_over_numbers(alloc, &row)? && agrees_over_records(alloc, &row)?),
+    if has(row, b"as=numbers") || !has(row, b"spans=") {
+        return agrees(exporter, row, false);
     }
+    agrees(exporter, row, false) && agrees(exporter, row, true)
 }

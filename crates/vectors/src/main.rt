@@ -1,99 +1,83 @@
 // Runs the rows of two records through the library: examples.txt, the examples of document 01 and
-// published ones, and rust.txt, answers of the Rust, which `tests/compare/run --vectors` made. Prints
-// each row that does not come out, and how many do.
+// published ones, and rust.txt, answers of the Rust, which `tests/compare/run --vectors` made. Prints the
+// line of each row that does not come out, and how many rows of each exporter do.
 #![tactic(auto)]
 
 mod call;
 mod compare;
+mod exporter;
 mod row;
 mod span_list;
 
 use compare::comes_out;
-use std::alloc::{AllocError, Global};
+use exporter::Exporter;
+use row::begins;
 use std::rt::Files;
 use std::{fs, io};
 
-// The exporters, in the order in which they are reported.
-const EXPORTERS: [&str; 17] = [
-    "binary",
-    "str",
-    "binstr",
-    "hexstr",
-    "readmemb",
-    "readmemh",
-    "separator",
-    "c_array",
-    "list",
-    "mif",
-    "logisim",
-    "bindump",
-    "hexdump",
-    "dump",
-    "intelhex",
-    "annotated",
-    "get_blocks",
-];
-
-// A row, and whether it comes out.
-#[derive(Clone, Copy)]
-struct Tried<'a> {
-    row: &'a str,
-    right: bool,
-}
-
-impl Tried<'_> {
-    fn is_of(&self, exporter: &str) -> bool {
-        self.row.split(' ').next() == Some(exporter)
-    }
-}
-
-// Runs the rows of a record: its lines that are not empty and no comments.
-fn run(alloc: Global, record: &str) -> Result<Vec<Tried>, AllocError> {
-    let mut tried = Vec::new(alloc);
-    for row in record.split('\n') {
-        if !row.is_empty() && !row.starts_with('#') {
-            let right = comes_out(alloc, row).unwrap_or(false);
-            tried.push(Tried { row, right })?;
+// The first line of a text, without its end.
+fn first_line(text: &[u8]) -> &[u8] {
+    for place in 0..text.len() {
+        if text[place] == b'\n' {
+            return &text[..place];
         }
     }
-    Ok(tried)
+    text
 }
 
-// Prints the rows that do not come out.
-fn print_wrong(rt: &impl Print, tried: &[Tried]) -> io::Result<()> {
-    for tried in tried {
-        if !tried.right {
-            let row = tried.row;
-            println!(rt; "WRONG: {row}")?;
-        }
-    }
-    Ok(())
+// What stands behind the first line.
+fn behind(text: &[u8]) -> &[u8] {
+    let next = first_line(text).len().saturating_add(1);
+    &text[next.min(text.len())..]
 }
 
-// How many rows of an exporter there are, and how many of them come out; of all where it is "".
-fn count(tried: &[Tried], exporter: &str) -> (usize, usize) {
-    let mut rows = 0usize;
-    let mut right = 0usize;
-    for tried in tried {
-        if exporter.is_empty() || tried.is_of(exporter) {
+// How many rows a record has: lines that are not empty, and no comments.
+fn count_rows(record: &[u8]) -> u64 {
+    let mut rows: u64 = 0;
+    let mut rest = record;
+    for _ in 0..record.len() {
+        let row = first_line(rest);
+        if !row.is_empty() && !begins(row, b"#") {
             rows = rows.saturating_add(1);
-            right = right.saturating_add(usize::from(tried.right));
         }
+        rest = behind(rest);
     }
-    (right, rows)
+    rows
 }
 
-fn run_file(rt: &(impl Files + Print + AllocGlobal), path: &str) -> io::Result<()> {
-    let record = fs::read_to_string(rt, path)?;
-    let tried = run(rt.alloc(), &record)?;
-    print_wrong(rt, &tried)?;
-    for exporter in EXPORTERS {
-        let (right, rows) = count(&tried, exporter);
-        if 0 < rows {
-            println!(rt; "{path}: {exporter} {right} of {rows}")?;
+// Runs the rows of an exporter, and prints how many come out.
+fn run(rt: &impl Print, path: &str, record: &[u8], exporter: Exporter) -> io::Result<u64> {
+    let mut rows: u64 = 0;
+    let mut right: u64 = 0;
+    let mut rest = record;
+    for line in 0..record.len() {
+        let row = first_line(rest);
+        if exporter.is_of(row) {
+            rows = rows.saturating_add(1);
+            if comes_out(exporter, row) {
+                right = right.saturating_add(1);
+            } else {
+                let number = line.saturating_add(1);
+                println!(rt; "{path}: line {number} is WRONG")?;
+            }
         }
+        rest = behind(rest);
     }
-    let (right, rows) = count(&tried, "");
+    let name = exporter.name();
+    if 0 < rows {
+        println!(rt; "{path}: {name} {right} of {rows}")?;
+    }
+    Ok(right)
+}
+
+// Runs the rows of a file.
+fn run_file(rt: &(impl Files + Print + AllocGlobal), path: &str) -> io::Result<()> {
+    let record = fs::read(rt, path)?;
+    let mut right: u64 = 0;
+    for exporter in Exporter::ALL {
+        right = right.saturating_add(run(rt, path, &record, exporter)?);
+    }
+    let rows = count_rows(&record);
     println!(rt; "{path}: {right} of {rows} rows come out")
 }
 

@@ -1,149 +1,153 @@
 // A row of a record, taken apart: an exporter's name and words KEY=VALUE, which data/examples.txt
-// describes. What cannot be read is none, and so is what memory runs out for: the row is then wrong.
-use std::alloc::Global;
-use std::str::FromStr;
+// describes. Rows are bytes, read by loops, and an answer is a value in each case: the check of the same
+// over `str`, `Vec` and `Option` took three times as long.
+ghost use Rattle.std.specs.Prelude.{◌≡◌, true, ◌≤◌, length};
 
-// The keys that there are.
-const KEYS: &str = "bits image zeros text room refused value padded spans count as blocks width \
-    bits_per_digit radix separator base digits_per_group groups_per_group2 before after between \
-    between2 bits_per_chunk digit_bits byte_bits bytes_per_line address_unit addr_base \
-    display_labels firmware protocol";
+// The longest text, image or string.
+pub(crate) const LONGEST: usize = 4200;
 
-// A word of a row, with the bytes that its value says, if it says bytes.
+// The number of a key that a row does not have, or that says none: an option outside each range.
+pub(crate) const MISSING: usize = usize::MAX;
+
+// Bytes at the front of an array.
 #[derive(Drop)]
-struct Word<'a> {
-    key: &'a str,
-    value: &'a str,
-    bytes: Option<Vec<u8>>,
+pub(crate) struct Text {
+    all: [u8; LONGEST],
+    count: usize,
+    ghost inside: { count ≤ 4200 },
 }
 
-#[derive(Drop)]
-pub(crate) struct Row<'a> {
-    pub(crate) name: &'a str,
-    words: Vec<Word<'a>>,
+impl Text {
+    pub(crate) fn slice(&self) -> &[u8] {
+        &self.all[..self.count]
+    }
 }
 
-fn is_known(key: &str) -> bool {
-    for known in KEYS.split(' ') {
-        if known == key {
-            return true;
+// Whether a text begins with a word.
+pub(crate) fn begins(text: &[u8], word: &[u8]) -> bool
+    ensures { result ≡ true → length word.now ≤ length text.now }
+{
+    if text.len() < word.len() {
+        return false;
+    }
+    for place in 0..word.len() {
+        if text[place] != word[place] {
+            return false;
         }
     }
-    false
+    true
 }
 
-fn nibble(digit: u8) -> Option<u8> {
-    match digit {
-        b'0'..=b'9' => Some(digit - b'0'),
-        b'a'..=b'f' => Some(digit - b'a' + 10),
-        _ => None,
+// The row from the value of a key on; nothing where the row does not have the key outside quotes. The key
+// comes with its `=`.
+pub(crate) fn value<'a>(row: &'a [u8], key: &[u8]) -> &'a [u8] {
+    let mut quoted = false;
+    for place in 0..row.len() {
+        quoted = quoted != (row[place] == b'"');
+        let word = &row[place + 1..];
+        if row[place] == b' ' && !quoted && begins(word, key) {
+            return &word[key.len()..];
+        }
+    }
+    b""
+}
+
+pub(crate) fn has(row: &[u8], key: &[u8]) -> bool {
+    !value(row, key).is_empty()
+}
+
+// A decimal number with one digit more.
+pub(crate) fn longer(number: u64, digit: u8) -> u64 {
+    number
+        .saturating_mul(10)
+        .saturating_add(u64::from(digit.wrapping_sub(b'0')))
+}
+
+// The decimal number of a key.
+pub(crate) fn number(row: &[u8], key: &[u8]) -> usize {
+    let text = value(row, key);
+    if text.is_empty() {
+        return MISSING;
+    }
+    let mut number = 0;
+    for &letter in text {
+        if letter == b' ' {
+            break;
+        }
+        if letter < b'0' || b'9' < letter {
+            return MISSING;
+        }
+        number = longer(number, letter);
+    }
+    number as usize
+}
+
+// The same, or another number where the row does not have the key.
+pub(crate) fn number_or(row: &[u8], key: &[u8], other: usize) -> usize {
+    if has(row, key) {
+        number(row, key)
+    } else {
+        other
     }
 }
 
-// The byte of two hexadecimal digits.
-fn byte(high: u8, low: u8) -> Option<u8> {
-    Some((nibble(high)? << 4) | nibble(low)?)
+// The value of a hexadecimal digit in lower case, 16 or more for any other letter.
+fn nibble(digit: u8) -> u8 {
+    let letter = digit.wrapping_sub(b'a');
+    if letter < 6 {
+        return letter + 10;
+    }
+    let decimal = digit.wrapping_sub(b'0');
+    if decimal < 10 { decimal } else { 16 }
 }
 
-// The first byte of hexadecimal digits, and what stands behind it.
-fn hex_byte(digits: &[u8]) -> Option<(u8, &[u8])> {
-    match digits {
-        [high, low, rest @ ..] => Some((byte(*high, *low)?, rest)),
-        _ => None,
+// The byte of two hexadecimal digits that a text begins with, and what stands behind it.
+fn hex_byte(text: &[u8]) -> Option<(u8, &[u8])> {
+    let [high, low, rest @ ..] = text else {
+        return None;
+    };
+    let high = nibble(*high);
+    let low = nibble(*low);
+    if 15 < high || 15 < low {
+        return None;
     }
+    Some((high * 16 + low, rest))
 }
 
 // The same of bytes in quotes.
-fn quoted_byte(quoted: &[u8]) -> Option<(u8, &[u8])> {
-    match quoted {
+fn quoted_byte(text: &[u8]) -> Option<(u8, &[u8])> {
+    match text {
         [b'\\', b'n', rest @ ..] => Some((b'\n', rest)),
         [b'\\', b't', rest @ ..] => Some((b'\t', rest)),
         [b'\\', b'\\', rest @ ..] => Some((b'\\', rest)),
-        [b'\\', b'x', high, low, rest @ ..] => Some((byte(*high, *low)?, rest)),
-        [] | [b'\\', ..] => None,
+        [b'\\', b'x', rest @ ..] => hex_byte(rest),
+        [] | [b'\\' | b'"', ..] => None,
         [byte, rest @ ..] => Some((*byte, rest)),
     }
 }
 
-// The bytes of a value.
-fn decode(alloc: Global, value: &str) -> Option<Vec<u8>> {
-    let (quoted, mut rest) = match value.as_bytes() {
-        [b'-'] => (false, [].as_slice()),
-        [b'"', inside @ .., b'"'] => (true, inside),
-        digits => (false, digits),
-    };
-    let mut bytes = Vec::new(alloc);
-    for _ in 0..value.len() {
-        if rest.is_empty() {
-            break;
-        }
-        let (byte, behind) = if quoted {
-            quoted_byte(rest)?
+// The bytes of a key, behind `zeros` zeros, up to one that cannot be read.
+pub(crate) fn bytes(row: &[u8], key: &[u8], zeros: usize) -> Text {
+    let mut all = [0; LONGEST];
+    let mut rest = value(row, key);
+    let quoted = begins(rest, b"\"");
+    if quoted {
+        rest = &rest[1..];
+    }
+    for count in zeros.min(LONGEST)..LONGEST {
+        let next = if quoted {
+            quoted_byte(rest)
         } else {
-            hex_byte(rest)?
+            hex_byte(rest)
         };
-        bytes.push(byte).ok()?;
+        let Some((byte, behind)) = next else {
+            return Text { all, count };
+        };
+        all[count] = byte;
         rest = behind;
     }
-    Some(bytes)
-}
-
-impl<'a> Row<'a> {
-    // A space inside quotes does not part words.
-    pub(crate) fn parse(alloc: Global, line: &'a str) -> Option<Row<'a>> {
-        let mut quoted = false;
-        let mut parts = line.split(|c| {
-            quoted = quoted != (c == '"');
-            c == ' ' && !quoted
-        });
-        let name = parts.next()?;
-        let mut words = Vec::new(alloc);
-        for part in parts {
-            let (key, value) = part.split_once('=')?;
-            if !is_known(key) {
-                return None;
-            }
-            let bytes = decode(alloc, value);
-            words.push(Word { key, value, bytes }).ok()?;
-        }
-        Some(Row { name, words })
-    }
-
-    fn word(&self, key: &str) -> Option<&Word<'a>> {
-        for word in &self.words {
-            if word.key == key {
-                return Some(word);
-            }
-        }
-        None
-    }
-
-    // The value of a key as it stands.
-    pub(crate) fn value(&self, key: &str) -> Option<&'a str> {
-        Some(self.word(key)?.value)
-    }
-
-    pub(crate) fn has(&self, key: &str) -> bool {
-        self.word(key).is_some()
-    }
-
-    pub(crate) fn number<T: FromStr>(&self, key: &str) -> Option<T>
-    where
-        T::Err: Drop,
-    {
-        self.value(key)?.parse().ok()
-    }
-
-    // `missing` where the row does not have the key.
-    pub(crate) fn number_or(&self, key: &str, missing: usize) -> Option<usize> {
-        if self.has(key) {
-            self.number(key)
-        } else {
-            Some(missing)
-        }
-    }
-
-    pub(crate) fn bytes(&self, key: &str) -> Option<&[u8]> {
-        Some(self.word(key)?.bytes.as_ref()?)
+    Text {
+        all,
+        count: LONGEST,
     }
 }

@@ -1,148 +1,133 @@
-// Lists of spans, `(A,B,..)(A,B,..)` or `-`: columns of their numbers, and records.
-use crate::row::Row;
-use listing::SpanColumns;
+// The spans of a row, `(A,B,..)(A,B,..)` or `-`: columns of their numbers, and records.
+ghost use Rattle.std.specs.Prelude.{◌≤◌};
+
+use crate::row::{longer, number_or, value};
 use ordering::ABSENT;
-use sources::NO_LOCATION;
 use spans::{Location, Span};
-use std::alloc::Global;
-use std::str::FromStr;
 
-// The numbers of spans; one that is left out shortens its column.
+// The most spans of a list: one more than are looked at, and two more than a list may have.
+pub(crate) const MOST: usize = 4098;
+
+// The number of `-`: no offset, no location.
+const NONE: u64 = u64::MAX;
+
+// A number of each span, at the front of an array.
 #[derive(Drop)]
-pub(crate) struct Columns {
-    pub(crate) offsets: Vec<u32>,
-    pub(crate) sizes: Vec<u32>,
-    addrs: Vec<u64>,
-    files: Vec<u8>,
-    starts: Vec<u64>,
-    ends: Vec<u64>,
+pub(crate) struct Numbers {
+    pub(crate) all: [u64; MOST],
+    pub(crate) count: usize,
+    pub(crate) ghost few: { count ≤ 4098 },
 }
 
-// Puts a number behind a column, `none` for `-`.
-fn push<T: FromStr + Drop>(column: &mut Vec<T>, field: Option<&str>, none: Option<T>) -> Option<()>
-where
-    T::Err: Drop,
-{
-    match field {
-        None | Some("") => Some(()),
-        Some("-") => column.push(none?).ok(),
-        Some(number) => column.push(number.parse().ok()?).ok(),
-    }
-}
-
-impl Columns {
-    fn new(alloc: Global) -> Columns {
-        Columns {
-            offsets: Vec::new(alloc),
-            sizes: Vec::new(alloc),
-            addrs: Vec::new(alloc),
-            files: Vec::new(alloc),
-            starts: Vec::new(alloc),
-            ends: Vec::new(alloc),
+// Number `k` of each span of a list. One that is left out shortens the column.
+pub(crate) fn column(list: &[u8], k: usize) -> Numbers {
+    let mut all = [0; MOST];
+    let mut count: usize = 0;
+    let mut field: usize = 0;
+    let mut number = 0;
+    let mut empty = true;
+    for &letter in list {
+        if letter == b' ' || MOST <= count {
+            break;
+        }
+        if letter == b',' || letter == b')' {
+            if field == k && !empty {
+                all[count] = number;
+                count += 1;
+            }
+            field = field.saturating_add(1);
+        } else {
+            number = if letter == b'-' {
+                NONE
+            } else {
+                longer(number, letter)
+            };
+            empty = false;
+        }
+        if letter == b'(' {
+            field = 0;
+        }
+        if letter == b'(' || letter == b',' {
+            number = 0;
+            empty = true;
         }
     }
-
-    fn push(&mut self, span: &str) -> Option<()> {
-        let mut fields = span.split(',');
-        push(&mut self.offsets, fields.next(), Some(ABSENT))?;
-        push(&mut self.sizes, fields.next(), None)?;
-        push(&mut self.addrs, fields.next(), None)?;
-        push(&mut self.files, fields.next(), None)?;
-        push(&mut self.starts, fields.next(), Some(NO_LOCATION))?;
-        push(&mut self.ends, fields.next(), Some(NO_LOCATION))
+    Numbers {
+        all,
+        count: count.min(MOST),
     }
+}
 
-    pub(crate) fn lent(&self) -> SpanColumns {
-        SpanColumns {
-            offsets: &self.offsets,
-            sizes: &self.sizes,
-            addrs: &self.addrs,
-            files: &self.files,
-            starts: &self.starts,
-            ends: &self.ends,
+// Number `k` of each span of a row. That of the last one stands again up to the row's `count`.
+pub(crate) fn span_column(row: &[u8], k: usize) -> Numbers {
+    let mut found = column(value(row, b"spans="), k);
+    let count = number_or(row, b"count=", found.count).min(MOST);
+    if 0 < found.count {
+        let last = found.all[found.count - 1];
+        for place in found.count..count {
+            found.all[place] = last;
         }
+        found.count = count;
+    }
+    found
+}
+
+// A number of 32 bits; an offset that is absent is the one that says so.
+fn word(number: u64) -> u32 {
+    number.min(u64::from(ABSENT)) as u32
+}
+
+fn byte(number: u64) -> u8 {
+    number.min(255) as u8
+}
+
+// A column as numbers of 32 bits.
+pub(crate) fn words(column: &Numbers) -> [u32; MOST] {
+    let mut words = [0; MOST];
+    for place in 0..MOST {
+        words[place] = word(column.all[place]);
+    }
+    words
+}
+
+// A column as numbers of 8 bits.
+pub(crate) fn small(column: &Numbers) -> [u8; MOST] {
+    let mut small = [0; MOST];
+    for place in 0..MOST {
+        small[place] = byte(column.all[place]);
+    }
+    small
+}
+
+fn record(offset: u64, size: u64, addr: u64, file: u64, start: u64, end: u64) -> Span {
+    Span {
+        offset: if offset == NONE {
+            None
+        } else {
+            Some(word(offset))
+        },
+        size: word(size),
+        addr,
+        file_handle: byte(file),
+        location: if start == NONE {
+            None
+        } else {
+            Some(Location { start, end })
+        },
     }
 }
 
-// What stands between the brackets of each span.
-fn split(alloc: Global, list: &str) -> Option<Vec<&str>> {
-    let mut spans = Vec::new(alloc);
-    for part in list.split(')') {
-        if part != "" && part != "-" {
-            spans.push(part.strip_prefix('(')?).ok()?;
-        }
+// The spans of a row as records. A span of two numbers has zeros for the others.
+pub(crate) fn records(row: &[u8]) -> [Span; MOST] {
+    let offsets = span_column(row, 0).all;
+    let sizes = span_column(row, 1).all;
+    let addrs = span_column(row, 2).all;
+    let files = span_column(row, 3).all;
+    let starts = span_column(row, 4).all;
+    let ends = span_column(row, 5).all;
+    let mut records = [record(0, 0, 0, 0, 0, 0); MOST];
+    for k in 0..MOST {
+        records[k] = record(offsets[k], sizes[k], addrs[k], files[k], starts[k], ends[k]);
     }
-    Some(spans)
-}
-
-// The spans of a row; the last one stands again up to its `count`.
-fn spans<'a>(alloc: Global, row: &Row<'a>) -> Option<Vec<&'a str>> {
-    let mut spans = split(alloc, row.value("spans")?)?;
-    if row.has("count") {
-        let last = *spans.last()?;
-        spans.resize(row.number("count")?, last).ok()?;
-    }
-    Some(spans)
-}
-
-// The numbers of the spans of a list.
-fn read(alloc: Global, spans: &[&str]) -> Option<Columns> {
-    let mut columns = Columns::new(alloc);
-    for span in spans {
-        columns.push(span)?;
-    }
-    Some(columns)
-}
-
-// The row's spans as numbers.
-pub(crate) fn columns_of(alloc: Global, row: &Row) -> Option<Columns> {
-    read(alloc, &spans(alloc, row)?)
-}
-
-// The row's blocks, none where it is refused.
-pub(crate) fn blocks(alloc: Global, row: &Row) -> Option<Columns> {
-    if row.has("refused") {
-        return Some(Columns::new(alloc));
-    }
-    read(alloc, &split(alloc, row.value("blocks")?)?)
-}
-
-// A number, or none for `-`.
-fn optional<T: FromStr>(field: &str) -> Option<Option<T>>
-where
-    T::Err: Drop,
-{
-    if field == "-" {
-        return Some(None);
-    }
-    Some(Some(field.parse().ok()?))
-}
-
-fn location(start: &str, end: &str) -> Option<Option<Location>> {
-    let Some(start) = optional(start)? else {
-        return Some(None);
-    };
-    let end = end.parse().ok()?;
-    Some(Some(Location { start, end }))
-}
-
-// A span of two numbers has address 0, file 0 and no location.
-fn record(span: &str) -> Option<Span> {
-    let mut fields = span.split(',');
-    Some(Span {
-        offset: optional(fields.next()?)?,
-        size: fields.next()?.parse().ok()?,
-        addr: fields.next().unwrap_or("0").parse().ok()?,
-        file_handle: fields.next().unwrap_or("0").parse().ok()?,
-        location: location(fields.next().unwrap_or("-"), fields.next().unwrap_or("-"))?,
-    })
-}
-
-// The row's spans as records.
-pub(crate) fn records(alloc: Global, row: &Row) -> Option<Vec<Span>> {
-    let mut records = Vec::new(alloc);
-    for span in &spans(alloc, row)? {
-        records.push(record(span)?).ok()?;
-    }
-    Some(records)
+    records
 }
