@@ -113,8 +113,9 @@ fn intelhex(list: List) -> [Group; 2] {
     groups(HEX_SIZES, |(size, unit), off| {
         let bits = 8 * size;
         let columns = Columns::new(&list.parts(bits, off));
-        let (name, target) = (format!("intelhex, {}", list.name()), Some(exporters::HEX));
-        let exporter = exporters::intelhex(name, target, columns.spans.clone(), unit);
+        let floor = if list.in_order() { exporters::HEX } else { exporters::UNORDERED };
+        let name = format!("intelhex, {}", list.name());
+        let exporter = exporters::intelhex(name, Some(floor), columns.spans.clone(), unit);
         (Rc::new(exporter), bits, Rc::new(columns))
     })
 }
@@ -127,7 +128,7 @@ fn annotated(list: List) -> [Group; 2] {
         let columns = Columns::new(&list.parts(bits, off));
         let (numbers, labels) = ([16, 16, 2], 1);
         let listing = Listing { columns: columns.clone(), texts: texts.clone(), numbers, labels };
-        let (name, target) = (format!("annotated, {}", list.name()), Some(exporters::OTHERS));
+        let (name, target) = (format!("annotated, {}", list.name()), Some(exporters::DAILY));
         (Rc::new(exporters::annotated(name, target, listing)), bits, Rc::new(columns))
     })
 }
@@ -136,7 +137,6 @@ fn annotated(list: List) -> [Group; 2] {
 /// these make no record, so that both sides order the spans, make the blocks and write the end
 /// record. The Rust copies the spans first, and an address without an allocation where it is 0.
 fn get_blocks(list: List) -> [Group; 2] {
-    let target = (list.count == 4096).then_some(1.0);
     let case = |zero: bool| {
         let mut columns = Columns::new(&list.empty());
         let mut name = format!("get_blocks, {}", list.name());
@@ -144,7 +144,7 @@ fn get_blocks(list: List) -> [Group; 2] {
             columns.addrs.fill(0);
             name += ", addr 0";
         }
-        let exporter = exporters::intelhex(name, target, columns.spans.clone(), 8);
+        let exporter = exporters::intelhex(name, Some(1.0), columns.spans.clone(), 8);
         let (exporter, columns) = (Rc::new(exporter), Rc::new(columns));
         vec![Case { exporter, alignment: "-", bits: 0, columns }]
     };

@@ -36,12 +36,15 @@ impl Exporter {
     }
 }
 
-/// The target of Intel HEX.
+/// The floor of Intel HEX of spans in order.
 pub const HEX: f64 = 30.0;
-/// The target of MIF, the C array, the lists and the dumps.
-const LISTS: f64 = 15.0;
-/// The target of every other exporter.
-pub const OTHERS: f64 = 10.0;
+/// The floor of Intel HEX of spans in any other order.
+pub const UNORDERED: f64 = 2.0;
+/// The floor of what is exported every day: the binary file, hexadecimal digits, MIF, the memory files of 8,
+/// 16 and 32 bits, the array of C, the separator list, the list in base 16, the hexdump and the listing.
+pub const DAILY: f64 = 6.0;
+/// The floor of every other row.
+const OTHERS: f64 = 1.2;
 
 /// The exporters that take no spans.
 pub fn without_spans() -> Vec<Exporter> {
@@ -58,8 +61,7 @@ pub fn without_spans() -> Vec<Exporter> {
     all
 }
 
-/// Exporters with options that make short lines, chunks or groups, or of no whole bytes. No target is
-/// set for them.
+/// Exporters with options that make short lines, chunks or groups, or of no whole bytes.
 pub fn with_short_parts() -> Vec<Exporter> {
     let mut all = vec![str(2)];
     all.extend([1, 3, 12].map(readmemb));
@@ -67,13 +69,13 @@ pub fn with_short_parts() -> Vec<Exporter> {
     all.extend([[16, 1, 16], [2, 1, 16], [8, 3, 8], [32, 2, 8]].map(list));
     all.extend([2, 4, 12].map(logisim));
     all.push(dump("dump, 4 bits a digit, 1 byte a line", [4, 8, 1]));
-    all.into_iter().map(|exporter| Exporter { target: None, ..exporter }).collect()
+    all.into_iter().map(|exporter| Exporter { target: Some(OTHERS), ..exporter }).collect()
 }
 
 fn binary() -> Exporter {
     Exporter::new(
         "binary",
-        OTHERS,
+        DAILY,
         |image, bits, out| slices::format_binary(image, bits, out).map(|binary| binary.len),
         |image| image.format_binary(&mut Report::new()),
     )
@@ -87,7 +89,7 @@ fn str(digit: usize) -> Exporter {
     };
     Exporter::new(
         name,
-        OTHERS,
+        if digit == 4 { DAILY } else { OTHERS },
         move |image, bits, out| slices::format_str(image, bits, digit, out),
         move |image| image.format_str(digit).into_bytes(),
     )
@@ -96,7 +98,7 @@ fn str(digit: usize) -> Exporter {
 fn readmemb(width: usize) -> Exporter {
     Exporter::new(
         format!("readmemb, width {width}"),
-        OTHERS,
+        DAILY,
         move |image, bits, out| slices::format_readmemb(image, bits, width, out),
         move |image| image.format_readmemb(&FormatReadMemOptions { width }).into_bytes(),
     )
@@ -105,7 +107,7 @@ fn readmemb(width: usize) -> Exporter {
 fn readmemh(width: usize) -> Exporter {
     Exporter::new(
         format!("readmemh, width {width}"),
-        OTHERS,
+        DAILY,
         move |image, bits, out| slices::format_readmemh(image, bits, width, out),
         move |image| image.format_readmemh(&FormatReadMemOptions { width }).into_bytes(),
     )
@@ -114,7 +116,7 @@ fn readmemh(width: usize) -> Exporter {
 fn separator(radix: usize) -> Exporter {
     Exporter::new(
         format!("separator, radix {radix}"),
-        LISTS,
+        DAILY,
         move |image, bits, out| slices::format_separator(image, bits, radix, b", ", out),
         move |image| image.format_separator(radix, ", ").into_bytes(),
     )
@@ -123,7 +125,7 @@ fn separator(radix: usize) -> Exporter {
 fn c_array(radix: usize) -> Exporter {
     Exporter::new(
         format!("c_array, radix {radix}"),
-        LISTS,
+        DAILY,
         move |image, bits, out| slices::format_c_array(image, bits, radix, out),
         move |image| image.format_c_array(radix).into_bytes(),
     )
@@ -145,14 +147,14 @@ fn list([base, digits, groups]: [usize; 3]) -> Exporter {
     };
     Exporter::new(
         format!("list, base {base}, {digits} digits, {groups} groups"),
-        LISTS,
+        if base == 16 { DAILY } else { OTHERS },
         move |image, bits, out| slices::format_list(image, bits, &options, out),
         move |image| image.format_list(&rust_options).into_bytes(),
     )
 }
 
 fn mif() -> Exporter {
-    Exporter::new("mif", LISTS, slices::format_mif, |image| image.format_mif().into_bytes())
+    Exporter::new("mif", DAILY, slices::format_mif, |image| image.format_mif().into_bytes())
 }
 
 fn logisim(chunk: usize) -> Exporter {
@@ -168,7 +170,7 @@ fn logisim(chunk: usize) -> Exporter {
 fn dump(name: &str, [digit, byte, bytes]: [usize; 3]) -> Exporter {
     Exporter::new(
         name,
-        LISTS,
+        if digit == 4 { DAILY } else { OTHERS },
         move |image, bits, out| slices::format_dump(image, bits, digit, byte, bytes, out),
         move |image| image.format_dump(digit, byte, bytes).into_bytes(),
     )

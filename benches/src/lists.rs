@@ -45,6 +45,11 @@ impl List {
         format!("{} spans {order}", self.count)
     }
 
+    /// Whether its spans are lent in order, each behind the one before it.
+    pub fn in_order(&self) -> bool {
+        self.order == Order::Sorted
+    }
+
     /// Spans that divide an image into equal parts, from bit `start` on; what would lie past the
     /// image's end is cut. Equal ones have the size of a part and lie at `start`.
     pub fn parts(&self, bits: usize, start: usize) -> Vec<Row> {
