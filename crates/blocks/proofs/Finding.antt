@@ -12,9 +12,10 @@ use Rattle.std.specs.Prelude.{Ok, Err}
 use Rattle.outcome.specs.declared.Refusal.{Refusal}
 use Rattle.outcome.specs.declared.Refusal.TheVariants.{ImageSize, OptionRange, SpanRange, EmptyImage, AddressRange, SourceText, SpanFault, NoRoom}
 use Rattle.outcome.specs.Outcome.{Answer, refusal_of, answer_of}
-use Rattle.span_range.specs.Range.{long_list, fault_at, spans_checked, IsCause}
-use Rattle.blocks.specs.Blocks.{Block, Finding, found, refused, blocks_of, blocks_found, Finds, Stores}
-use Rattle.span_range.proofs.Good.{short_list, checked_refused}
+use Rattle.span_list.specs.Range.{long_list, fault_at, spans_checked, IsCause}
+use Rattle.blocks.specs.Blocks.{Block, Finding, found, refused, blocks_of, blocks_found, Finds}
+use Rattle.blocks.specs.InnerStores.{Stores}
+use Rattle.span_list.proofs.Good.{short_list, checked_refused}
 use Rattle.blocks.proofs.Running.{blocks_few}
 
 -- A refusal's number is not 0.

@@ -4,7 +4,7 @@ use Rattle.std.proofs.lemmas.List.Edits.{sets}
 use Rattle.outcome.specs.declared.Refusal.{Refusal}
 use Rattle.outcome.specs.Outcome.{Answer, answer_of}
 use Rattle.ordering.specs.Order.{absent, in_order}
-use Rattle.span_range.specs.Range.{spans_checked}
+use Rattle.span_list.specs.Range.{spans_checked}
 
 -- Document 01's block: so many bits from an offset on. A span with an offset is one too.
 pub record Block : Type 0 where
@@ -67,9 +67,3 @@ pub record Finds (f : Finding) (r : Result ℕ Refusal) (offsets₀ offsets₁ s
   pub answered : answer_of r ≡ finding_answer f
   pub offsets : offsets₁ ≡ front (λ b. b.offset) f offsets₀
   pub sizes : sizes₁ ≡ front (λ b. b.size) f sizes₀
-
--- Blocks are stored in two slices behind the first `at`, and `count` blocks are there.
-pub record Stores (blocks : List Block) (at : ℕ) (offsets₀ offsets₁ sizes₀ sizes₁ : List ℕ) (count : ℕ) : Type 0 where
-  pub counted : count ≡ at + length blocks
-  pub offsets : offsets₁ ≡ sets offsets₀ at (map (λ b. b.offset) blocks)
-  pub sizes : sizes₁ ≡ sets sizes₀ at (map (λ b. b.size) blocks)

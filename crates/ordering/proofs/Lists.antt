@@ -164,3 +164,9 @@ pub table_list : {A : Type 0} (l : List A) (d : A) → table (λ k. get_or l k d
 table_list l d =
     let size = table_length (λ k. get_or l k d) (length l) in
     ext_get_or d (table (λ k. get_or l k d) (length l)) l size (λ i h. table_get (λ k. get_or l k d) (length l) i d (omega (arith, size)))
+
+-- What is stored over the front of a list.
+pub front_stored : (l t q : List ℕ) (n : ℕ) → n ≤ length l → length t ≡ n → q ≡ t → q ++ drop n l ≡ sets l 0 t
+front_stored l t q n h e f =
+    let same : n ≡ 0 + length t = omega arith in
+    ap (λ (r : List ℕ). r ++ drop n l) f ∙ ap (λ (i : ℕ). t ++ drop i l) same ∙ sym (sets-eq t l 0 (omega arith))
