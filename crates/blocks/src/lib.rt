@@ -5,8 +5,9 @@
 
 ghost use Rattle.std.specs.Prelude.{◌≡◌, [], ◌^◌, ◌≤◌, ◌<◌, length, set};
 ghost use Rattle.bitvec.specs.Size.{ceil_div};
+ghost use Rattle.outcome.specs.Outcome.{Finds};
 ghost use Rattle.ordering.specs.Order.{in_order};
-ghost use Rattle.blocks.specs.Blocks.{closed, blocks_of, blocks_found, Finds};
+ghost use Rattle.blocks.specs.Blocks.{closed, blocks_of, blocks_found};
 ghost use Rattle.blocks.specs.InnerStores.{Stores};
 
 use ordering::ABSENT;

@@ -1,6 +1,6 @@
 -- `blocks::close_all` meets its contract: at each turn the pass goes on as its definition says (proofs/Closing).
 -- Assumes nothing.
-use Rattle.std.proofs.Common.{◌≡◌, ◌≢◌, get_or, arith}
+use Rattle.std.proofs.Common.{◌≢◌, get_or, arith}
 use Rattle.ordering.specs.Order.{absent}
 use Rattle.span_list.proofs.Good.{good_span}
 use Rattle.blocks.proofs.Closing.{place_below, closing_first, closing_at, closing_few, closing_absent, closing_joins, closing_closes, closing_stores}
