@@ -7,8 +7,8 @@ use lib.ListN.{length}
 use borrow.Author.Tests.{eq-eqb}
 use Rattle.outcome.specs.declared.Refusal.{Refusal}
 use Rattle.outcome.specs.Outcome.{Outcome, refused, refusal_of}
-use Rattle.span_range.specs.Range.{IsCause, long_list, fault_at, spans_checked}
-use Rattle.span_range.proofs.Good.{checked_refused, checked_good}
+use Rattle.span_list.specs.Range.{IsCause, long_list, fault_at, spans_checked}
+use Rattle.span_list.proofs.Good.{checked_refused, checked_good}
 use Rattle.listing.specs.declared.ListedSpans.{ListedSpans}
 use Rattle.listing.specs.Listing.{Spans, lent, unequal}
 

@@ -2,7 +2,7 @@
 use Rattle.std.specs.Prelude.{cond, ◌||◌, List, ℕ, ltb, length}
 use Rattle.bitvec.specs.Size.{bad_size}
 use Rattle.outcome.specs.Outcome.{Outcome, refused, in_room}
-use Rattle.span_range.specs.Range.{spans_checked}
+use Rattle.span_list.specs.Range.{spans_checked}
 use Rattle.sources.specs.Sources.{bad_text}
 use Rattle.listing.specs.declared.FormatAnnotatedOptions.{FormatAnnotatedOptions}
 use Rattle.listing.specs.Listing.{bad_annotated, Spans, annotated_text}

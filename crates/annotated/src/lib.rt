@@ -15,7 +15,7 @@ use listing::{FormatAnnotatedOptions, Layout, ListedSpans, ListingOptions, SpanC
 use listing_spans::ShownSpans;
 use outcome::{Export, Refusal};
 use sources::Sources;
-use span_range::{GoodSpans, MAX_SPANS};
+use span_list::{GoodSpans, MAX_SPANS};
 
 // What a listing shows: at most 4,096 spans, none of them with a fault, and texts of at most 1,048,576
 // bytes.
@@ -59,18 +59,18 @@ impl<'a> Listed<'a> {
         Ok(shown.put_lines(out, next, image, places))
     }
 
-    // The listing of at most N spans, or refusal 8. N is bounded as in `span_order::order_within`.
+    // The listing of at most N spans, or refusal 8. N is bounded as in `ordering::order_within`.
     fn list_within<const N: usize>(self, out: &mut [u8]) -> Export
         requires { (length self.spans.columns.offsets.now ≤ N) × (N ≤ 4096) }
         ensures { Exports (in_room (length out.old) (annotated_text self.entry.options.given self.entry.image.bytes.now self.entry.image.len (lent self.entry.spans.columns) self.entry.sources.firmware.now self.entry.sources.protocol.now)) result out.old out.new }
     {
         let offsets = self.spans.columns.offsets;
         let mut places = [0u32; N];
-        span_order::order_within::<N>(offsets, &mut places);
+        ordering::order_within::<N>(offsets, &mut places);
         self.list_in_order(&places[..offsets.len()], out)
     }
 
-    // The listing, or refusal 8. For few spans less memory is set to zero, as in `blocks::find_blocks`.
+    // The listing, or refusal 8. For few spans less memory is set to zero, as in `blocks::get_blocks`.
     fn list(self, out: &mut [u8]) -> Export
         ensures { Exports (in_room (length out.old) (annotated_text self.entry.options.given self.entry.image.bytes.now self.entry.image.len (lent self.entry.spans.columns) self.entry.sources.firmware.now self.entry.sources.protocol.now)) result out.old out.new }
     {

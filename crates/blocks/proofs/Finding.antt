@@ -1,8 +1,8 @@
 -- What the answer of `get_blocks` tells: that refusal 3 applies, with its place, or that the spans are good and the blocks are there.
 -- Assumes nothing.
-use mathlib.Core.Path.{◌≡◌, refl, sym, ap}
+use mathlib.Core.Path.{◌≡◌, refl, sym, ap, ◌∙◌}
 use mathlib.Core.Bool.{Bool, true, false, cond, ◌||◌, false≢true}
-use mathlib.Core.List.{List}
+use mathlib.Core.List.{List, map}
 use Prim.Native.Nat.{ℕ, ◌≤◌}
 use native.Mathlib.Omega.{arith}
 use lib.Dec.{ltb}
@@ -11,10 +11,12 @@ use borrow.Author.Tests.{le-ltb}
 use Rattle.std.specs.Prelude.{Ok, Err}
 use Rattle.outcome.specs.declared.Refusal.{Refusal}
 use Rattle.outcome.specs.declared.Refusal.TheVariants.{ImageSize, OptionRange, SpanRange, EmptyImage, AddressRange, SourceText, SpanFault, NoRoom}
-use Rattle.outcome.specs.Outcome.{Answer, refusal_of, answer_of}
-use Rattle.span_range.specs.Range.{long_list, fault_at, spans_checked, IsCause}
-use Rattle.blocks.specs.Blocks.{Block, Finding, found, refused, blocks_of, blocks_found, Finds, Stores}
-use Rattle.span_range.proofs.Good.{short_list, checked_refused}
+use Rattle.outcome.specs.Outcome.{Answer, refusal_of, answer_of, Finding, found, unfound, Finds}
+use Rattle.ordering.proofs.Lists.{map_length}
+use Rattle.span_list.specs.Range.{long_list, fault_at, spans_checked, IsCause}
+use Rattle.blocks.specs.Blocks.{Block, blocks_of, blocks_found}
+use Rattle.blocks.specs.InnerStores.{Stores}
+use Rattle.span_list.proofs.Good.{short_list, checked_refused}
 use Rattle.blocks.proofs.Running.{blocks_few}
 
 -- A refusal's number is not 0.
@@ -33,7 +35,9 @@ module _ (offsets sizes offsets₀ offsets₁ sizes₀ sizes₁ : List ℕ) wher
   all = blocks_of offsets sizes
 
   abbrev cases : Bool → Bool → Bool → Finding
-  cases a b c = cond a (refused 3 4096) (cond b (refused 3 (fault_at offsets sizes)) (cond c (refused 8 (length all)) (found all)))
+  cases a b c =
+      cond a (unfound 3 4096)
+      (cond b (unfound 3 (fault_at offsets sizes)) (cond c (unfound 8 (length all)) (found (map (λ b. b.offset) all) (map (λ b. b.size) all))))
 
   abbrev given : Finding
   given = blocks_found offsets sizes (length offsets₀) (length sizes₀)
@@ -87,8 +91,8 @@ module _ (offsets sizes offsets₀ offsets₁ sizes₀ sizes₁ : List ℕ) wher
       go false true c p f = absurd (omega (arith, ap (λ (a : Answer). a.number) f.answered))
       go false false true p f = absurd (omega (arith, ap (λ (a : Answer). a.number) f.answered))
       go false false false p f =
-          let many : n ≡ length all = ap (λ (a : Answer). a.value) f.answered in
-          (omega (arith, blocks_few offsets sizes, (short_list offsets sizes p).0), record { counted = omega (arith, many); offsets = f.offsets; sizes = f.sizes }, p)
+          let many : n ≡ length all = ap (λ (a : Answer). a.value) f.answered ∙ map_length (λ b. b.offset) all in
+          (omega (arith, blocks_few offsets sizes, (short_list offsets sizes p).0), record { counted = omega (arith, many); offsets = f.firsts; sizes = f.seconds }, p)
 
   -- What good spans give, in the terms of the code: their blocks, or refusal 8.
   pub finds_blocks : long_list offsets sizes ≡ false → fault_at offsets sizes ≡ length offsets → length (blocks_of offsets sizes) ≤ length offsets₀ → length (blocks_of offsets sizes) ≤ length sizes₀
@@ -97,16 +101,16 @@ module _ (offsets sizes offsets₀ offsets₁ sizes₀ sizes₁ : List ℕ) wher
   unfolding blocks_found
   finds_blocks e g h k n s =
       simp (e, g, le-ltb (length offsets) (length offsets) (omega arith), le-ltb (length offsets₀) (length all) h, le-ltb (length sizes₀) (length all) k)
-      record { answered = ap (λ (n : ℕ). answer_of (Ok n)) (omega (arith, s.counted)); offsets = s.offsets; sizes = s.sizes }
+      record { answered = ap (λ (n : ℕ). answer_of (Ok n)) (omega (arith, s.counted, map_length (λ b. b.offset) all)); firsts = s.offsets; seconds = s.sizes }
 
 pub finds_no_room : (offsets sizes offsets₀ sizes₀ : List ℕ) → long_list offsets sizes ≡ false → fault_at offsets sizes ≡ length offsets → (n : ℕ) → n ≡ length (blocks_of offsets sizes)
     → (ltb (length offsets₀) n || ltb (length sizes₀) n) ≡ true → Finds (blocks_found offsets sizes (length offsets₀) (length sizes₀)) (Err (NoRoom n)) offsets₀ offsets₀ sizes₀ sizes₀
 unfolding blocks_found
 finds_no_room offsets sizes offsets₀ sizes₀ e g n m r =
     simp (e, g, le-ltb (length offsets) (length offsets) (omega arith), ← m, r)
-    record { answered = refl; offsets = refl; sizes = refl }
+    record { answered = refl; firsts = refl; seconds = refl }
 
 -- Spans that are refused give no blocks.
 pub finds_refused : (offsets sizes offsets₀ sizes₀ : List ℕ) (r : Refusal) → IsCause offsets sizes r → Finds (blocks_found offsets sizes (length offsets₀) (length sizes₀)) (Err r) offsets₀ offsets₀ sizes₀ sizes₀
 unfolding blocks_found
-finds_refused offsets sizes offsets₀ sizes₀ r c = rw (checked_refused refused _ offsets sizes r c) record { answered = refl; offsets = refl; sizes = refl }
+finds_refused offsets sizes offsets₀ sizes₀ r c = rw (checked_refused unfound _ offsets sizes r c) record { answered = refl; firsts = refl; seconds = refl }

@@ -1,4 +1,3 @@
 pub mod Running
 mod Closing
 pub mod Finding
-mod Adjoining

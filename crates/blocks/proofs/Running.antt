@@ -41,10 +41,6 @@ closed_before origin size others = go (eqb size 0)
     go true = refl
     go false = refl
 
-pub closed_some : (origin size : ℕ) → size ≢ 0 → length (closed origin size []) ≡ 1
-unfolding closed
-closed_some origin size e = simp (ne_eqb size 0 e)
-
 closed_few : (origin size : ℕ) → length (closed origin size []) ≤ 1
 unfolding closed
 closed_few origin size = go (eqb size 0)

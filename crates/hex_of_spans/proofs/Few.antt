@@ -2,14 +2,14 @@
 -- Assumes nothing.
 use mathlib.Core.Path.{◌≡◌, sym, ap, subst, ◌∙◌}
 use mathlib.Core.Bool.{false, cond, ◌||◌}
-use mathlib.Core.List.{List}
+use mathlib.Core.List.{List, map}
 use Prim.Native.Nat.{ℕ}
 use lib.Dec.{ltb}
 use lib.ListN.{length, take}
 use Rattle.bitvec.specs.Size.{bad_size}
-use Rattle.outcome.specs.Outcome.{refused, outside, Exports}
+use Rattle.outcome.specs.Outcome.{refused, outside, Exports, found, unfound}
 use Rattle.ordering.proofs.Lists.{map_length}
-use Rattle.blocks.specs.Blocks.{refused as None-found, found, blocks_of, blocks_found}
+use Rattle.blocks.specs.Blocks.{blocks_of, blocks_found}
 use Rattle.hex_records.specs.Plan.{hex_plan}
 use Rattle.intelhex.specs.declared.both.Both.{Both}
 use Rattle.intelhex.specs.Hex.{plan_outcome, hex_outcome}
@@ -26,7 +26,8 @@ pub blocks_few : (xs : List Span) (room room₂ : ℕ)
     → blocks_found (take 4097 (offsets_of xs)) (take 4097 (sizes_of xs)) room room₂ ≡ blocks_found (offsets_of xs) (sizes_of xs) room room₂
 unfolding blocks_found
 blocks_few xs room room₂ =
-    (checked_few None-found (λ o s. cond (ltb room (length (blocks_of o s)) || ltb room₂ (length (blocks_of o s))) (None-found 8 (length (blocks_of o s))) (found (blocks_of o s)))
+    (checked_few unfound
+    (λ o s. cond (ltb room (length (blocks_of o s)) || ltb room₂ (length (blocks_of o s))) (unfound 8 (length (blocks_of o s))) (found (map (λ b. b.offset) (blocks_of o s)) (map (λ b. b.size) (blocks_of o s))))
     (offsets_of xs) (sizes_of xs) (one_length xs))
 
 pub hex_few : (bytes : List ℕ) (len : ℕ) (xs : List Span) (unit room : ℕ)

@@ -4,8 +4,8 @@
 #![tactic(auto)]
 
 ghost use Rattle.std.specs.Prelude.{◌≡◌, length};
-ghost use Rattle.outcome.specs.Outcome.{Exports};
-ghost use Rattle.blocks.specs.Blocks.{blocks_of, blocks_found, Finds};
+ghost use Rattle.outcome.specs.Outcome.{Exports, Finds};
+ghost use Rattle.blocks.specs.Blocks.{blocks_of, blocks_found};
 ghost use Rattle.intelhex.specs.Hex.{hex_outcome};
 ghost use Rattle.intelhex.specs.TwoImages.{AgreeOn, SameAnswers, Sized};
 ghost use Rattle.spans.specs.Spans.{offsets_of, sizes_of};

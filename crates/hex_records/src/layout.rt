@@ -5,7 +5,7 @@ ghost use Rattle.outcome.specs.Outcome.{outside};
 
 use bitvec::{BitOffset, UnitAddress, parts};
 use blocks::Block;
-use ordering::SpanList;
+use span_list::SpanList;
 use outcome::outside;
 
 // How many bits one address stands for.

@@ -16,7 +16,7 @@ use Rattle.outcome.specs.Outcome.{Outcome, Answer, text, refused, answer, answer
 use Rattle.outcome.proofs.Outcome.{room_enough, room_short}
 use Rattle.ordering.specs.Lists.{Each}
 use Rattle.ordering.proofs.Lists.{each_both, each_map, sets_front}
-use Rattle.span_range.specs.Range.{long_list, fault_at}
+use Rattle.span_list.specs.Range.{long_list, fault_at}
 use Rattle.blocks.specs.Blocks.{blocks_of}
 use Rattle.hex_records.specs.Plan.{Chunk, hex_plan, too_high}
 use Rattle.hex_records.specs.Text.{hex_text}

@@ -2,7 +2,7 @@
 use Rattle.std.specs.Prelude.{cond, List, ℕ}
 use Rattle.bitvec.specs.Size.{bad_size}
 use Rattle.outcome.specs.Outcome.{Outcome, refused, outside, in_room}
-use Rattle.span_range.specs.Range.{spans_checked}
+use Rattle.span_list.specs.Range.{spans_checked}
 use Rattle.blocks.specs.Blocks.{blocks_of}
 use Rattle.hex_records.specs.Plan.{Chunk, hex_plan, too_high}
 use Rattle.hex_records.specs.Text.{hex_text}

@@ -1,7 +1,7 @@
 // `format_intelhex`: the blocks of the lent spans, and then their text.
 ghost use Rattle.std.specs.Prelude.{◌≡◌, false, ◌≤◌, length};
 ghost use Rattle.outcome.specs.Outcome.{refused, Exports};
-ghost use Rattle.span_range.specs.Range.{long_list, spans_checked};
+ghost use Rattle.span_list.specs.Range.{long_list, spans_checked};
 ghost use Rattle.blocks.specs.Blocks.{blocks_of};
 ghost use Rattle.hex_records.specs.Plan.{hex_plan};
 ghost use Rattle.hex_records.specs.Lent.{plan_of};
@@ -12,7 +12,7 @@ use blocks::get_blocks;
 use hex_length::{hex_length, low};
 use hex_records::{AddressUnit, HexPlan};
 use hex_text::write_hex;
-use ordering::SpanList;
+use span_list::SpanList;
 use outcome::{Export, Refusal};
 
 // The text of a plan, or refusal 5 or 8.
@@ -31,7 +31,7 @@ fn format_plan(image: Image, plan: HexPlan, out: &mut [u8]) -> Export
 
 // The text of the blocks that the spans make, or refusal 3, 5 or 8. The blocks are made in two arrays
 // that have a place for each span, unless there are too many spans: the smaller N is, the less memory
-// is set to zero, as in `blocks::find_blocks`. N is bounded as in `span_order::order_within`.
+// is set to zero, as in `blocks::get_blocks`. N is bounded as in `ordering::order_within`.
 fn format_spans<const N: usize>(
     image: Image,
     offsets: &[u32],
@@ -56,7 +56,7 @@ fn format_spans<const N: usize>(
 // Intel HEX records of the blocks that the spans make, and the end record. A span is an offset, with
 // 4294967295 for an absent one, and a size, in two slices of one length. They are two slices here, and
 // no list, since the C interface lends them so: that they have one length is still to be seen.
-#[tactic(auto, using(outcome::proofs::Outcome::inside, span_range::proofs::Good::short_list), unfolding(crate::specs::Hex::hex_outcome))]
+#[tactic(auto, using(outcome::proofs::Outcome::inside, span_list::proofs::Good::short_list), unfolding(crate::specs::Hex::hex_outcome))]
 pub fn format_intelhex(
     image: Image,
     offsets: &[u32],

@@ -13,7 +13,7 @@ ghost use Rattle.listing.specs.Listing.{lent, location_from, unequal, Narrow, ou
 
 use bitvec::BitOffset;
 use numbers::{DigitWidth, Letters, Radix};
-use ordering::SpanList;
+use span_list::SpanList;
 use sources::NO_LOCATION;
 
 // The spans of a listing, a column for each number of a span, as the C interface lends them; their lengths

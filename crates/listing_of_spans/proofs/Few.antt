@@ -11,7 +11,7 @@ use Rattle.output.proofs.Order.{by_order}
 use Rattle.bitvec.specs.Size.{bad_size}
 use Rattle.outcome.specs.Outcome.{Outcome, refused}
 use Rattle.ordering.proofs.Lists.{map_length}
-use Rattle.span_range.specs.Range.{long_list, spans_checked}
+use Rattle.span_list.specs.Range.{long_list, spans_checked}
 use Rattle.listing.specs.declared.FormatAnnotatedOptions.{FormatAnnotatedOptions}
 use Rattle.listing.specs.Listing.{bad_annotated, Spans, spans_of, unequal}
 use Rattle.annotated.specs.Annotated.{listed_outcome, annotated_outcome}

@@ -2,5 +2,7 @@ pub mod Lists
 pub mod Flat
 pub mod Ordered
 pub mod Keys
-pub mod Checked
+mod Sorted
+mod Straight
+pub mod Merged
 pub mod Numbered

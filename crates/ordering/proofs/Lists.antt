@@ -3,13 +3,13 @@
 use mathlib.Core.Path.{◌≡◌, refl, sym, ap, ◌∙◌, subst}
 use mathlib.Core.Bool.{Bool, true, false, cond}
 use mathlib.Core.List.{List, [], ◌∷◌, ◌++◌, map, append-nil}
-use Prim.Native.Nat.{ℕ, zero, suc, ◌+◌, ◌-◌, ◌≤◌, ◌<◌}
+use Prim.Native.Nat.{ℕ, zero, suc, ◌+◌, ◌≤◌, ◌<◌}
 use native.Mathlib.Nat.{zero-add}
 use native.Mathlib.Numerals.{add-one}
 use native.Mathlib.Omega.{arith}
 use lib.Dec.{ltb}
-use lib.ListN.{length, get_or, take, drop, set, length-append, length-drop, get_or-append, drop_of_length-le}
-use lib.Seq.{sets, sets-eq, ext_get_or, get_or_at, take_at, take-suc, length-take-le, take-add, take-append_seam, drop-drop, drop-append_seam}
+use lib.ListN.{length, get_or, take, drop, set, length-append, get_or-append, drop_of_length-le}
+use lib.Seq.{sets, sets-eq, ext_get_or, get_or_at, take_at, take-suc, length-take-le, take-add, take-append_seam}
 use borrow.Author.Tests.{lt-ltb, le-ltb, ltb-false}
 use Rattle.output.proofs.Order.{by_order}
 use Rattle.output.proofs.Writes.{sets_append}
@@ -68,24 +68,13 @@ module _ {A : Type 0} where
   each_both P Q R [] f p q = tt
   each_both P Q R (x ∷ l) f p q = (f x p.0 q.0, each_both P Q R l f p.1 q.1)
 
-  -- Where a list goes on with the part a after k things, as many more are taken, and the rest is left.
+  -- Where a list goes on with the part a after k things, as many more are taken.
   pub part_taken : (l a rest : List A) (k : ℕ) → drop k l ≡ a ++ rest → take (k + length a) l ≡ take k l ++ a
   part_taken l a rest k e = take-add k (length a) l ∙ ap (λ (t : List A). take k l ++ take (length a) t) e ∙ ap (λ (t : List A). take k l ++ t) (take-append_seam a rest)
-
-  pub part_left : (l a rest : List A) (k : ℕ) → drop k l ≡ a ++ rest → drop (k + length a) l ≡ rest
-  part_left l a rest k e = sym (drop-drop (length a) k l) ∙ ap (drop (length a)) e ∙ drop-append_seam a rest
-
-  pub part_there : (l a rest : List A) (k : ℕ) → drop k l ≡ a ++ rest → length a + length rest ≡ length l - k
-  part_there l a rest k e = sym (length-append a rest) ∙ ap length (sym e) ∙ length-drop k l
 
 pub map_append : {A B : Type 0} (g : A → B) (a b : List A) → map g (a ++ b) ≡ map g a ++ map g b
 map_append g [] b = refl
 map_append {B = B} g (x ∷ a) b = ap (λ (t : List B). g x ∷ t) (map_append g a b)
-
-pub map_drop : {A B : Type 0} (g : A → B) (k : ℕ) (l : List A) → drop k (map g l) ≡ map g (drop k l)
-map_drop g zero l = refl
-map_drop g (suc k) [] = refl
-map_drop g (suc k) (x ∷ l) = map_drop g k l
 
 -- A table is mapped by mapping its function.
 pub table_map : {A B : Type 0} (g : A → B) (f : ℕ → A) (n : ℕ) → map g (table f n) ≡ table (λ k. g (f k)) n
@@ -164,3 +153,9 @@ pub table_list : {A : Type 0} (l : List A) (d : A) → table (λ k. get_or l k d
 table_list l d =
     let size = table_length (λ k. get_or l k d) (length l) in
     ext_get_or d (table (λ k. get_or l k d) (length l)) l size (λ i h. table_get (λ k. get_or l k d) (length l) i d (omega (arith, size)))
+
+-- What is stored over the front of a list.
+pub front_stored : (l t q : List ℕ) (n : ℕ) → n ≤ length l → length t ≡ n → q ≡ t → q ++ drop n l ≡ sets l 0 t
+front_stored l t q n h e f =
+    let same : n ≡ 0 + length t = omega arith in
+    ap (λ (r : List ℕ). r ++ drop n l) f ∙ ap (λ (i : ℕ). t ++ drop i l) same ∙ sym (sets-eq t l 0 (omega arith))

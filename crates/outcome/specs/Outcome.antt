@@ -57,3 +57,24 @@ in_room room t = cond (ltb room (length t)) (refused 8 (length t)) (text t)
 pub record Exports (o : Outcome) (r : Result ℕ Refusal) (before after : List ℕ) : Type 0 where
   pub answered : answer_of r ≡ answer o
   pub buffer : after ≡ left o before
+
+-- What a function gives that fills the fronts of two slices: the numbers of both, or a refusal with its number and value.
+pub data Finding : Type 0 where
+  found : List ℕ → List ℕ → Finding
+  unfound : ℕ → ℕ → Finding
+
+-- The answer that a finding asks for: how many were found.
+abbrev pub finding_answer : Finding → Answer
+finding_answer (found firsts seconds) = record { number = 0; value = length firsts }
+finding_answer (unfound n v) = record { number = n; value = v }
+
+-- One of the slices behind the call: its front holds its numbers and the rest stays; a refusal leaves it as it was.
+abbrev pub front : (List ℕ → List ℕ → List ℕ) → Finding → List ℕ → List ℕ
+front numbers (found firsts seconds) before = sets before 0 (numbers firsts seconds)
+front numbers (unfound n v) before = before
+
+-- What such a function promises: its answer, and every number of both slices.
+pub record Finds (f : Finding) (r : Result ℕ Refusal) (firsts₀ firsts₁ seconds₀ seconds₁ : List ℕ) : Type 0 where
+  pub answered : answer_of r ≡ finding_answer f
+  pub firsts : firsts₁ ≡ front (λ firsts seconds. firsts) f firsts₀
+  pub seconds : seconds₁ ≡ front (λ firsts seconds. seconds) f seconds₀

@@ -10,7 +10,7 @@ use lib.Seq.{take_all}
 use borrow.Author.Tests.{lt-ltb}
 use Rattle.output.proofs.Order.{by_order}
 use Rattle.ordering.proofs.Lists.{map_length, sets_front}
-use Rattle.span_range.specs.Range.{long_list, spans_checked}
+use Rattle.span_list.specs.Range.{long_list, spans_checked}
 use Rattle.spans.specs.declared.Span.{Span}
 use Rattle.spans.specs.declared.columns.Columns.{Columns}
 use Rattle.spans.specs.declared.columns.ListingColumns.{ListingColumns}

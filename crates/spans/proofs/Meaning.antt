@@ -13,7 +13,7 @@ use Rattle.bitvec.specs.Size.{max_bits}
 use Rattle.ordering.specs.Lists.{first}
 use Rattle.ordering.specs.Order.{absent}
 use Rattle.ordering.proofs.Lists.{map_length}
-use Rattle.span_range.specs.Range.{bad_span, fault_at}
+use Rattle.span_list.specs.Range.{bad_span, fault_at}
 use Rattle.std.specs.Prelude.{Option, None, Some}
 use Rattle.spans.specs.declared.Span.{Span}
 use Rattle.spans.specs.Spans.{offset_number, offsets_of, sizes_of, ends_past}

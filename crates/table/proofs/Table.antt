@@ -13,7 +13,7 @@ use Rattle.image_parts.specs.Parts.{part_bits}
 use Rattle.bases.specs.Base.{base_bits}
 use Rattle.ordering.specs.Lists.{table as numbered, first}
 use Rattle.ordering.specs.Order.{put_in, ordered, rank, in_order}
-use Rattle.span_range.specs.Range.{long_list, bad_span, fault_at}
+use Rattle.span_list.specs.Range.{long_list, bad_span, fault_at}
 use Rattle.blocks.specs.Blocks.{present, closed, running, blocks_in, blocks_of}
 use Rattle.hex_records.specs.Plan.{chunk_at, block_plan, hex_plan, too_high}
 use Rattle.hex_records.specs.Text.{bytes_from, total, checksum, record_bytes, hex_bytes, record_text, hex_text}

@@ -1,2 +1,0 @@
-pub mod Merged
-mod Sorted

@@ -1,2 +1,0 @@
-pub mod Good
-mod Bits
