@@ -11,7 +11,7 @@ use Rattle.bitvec.specs.Bits.{byte_at}
 use Rattle.bitvec.proofs.Words.{byte_whole}
 use Rattle.output.specs.Pieces.{pieces, leading, joined, every}
 use Rattle.output.proofs.Pieces.{pieces_none, pieces_next, pieces_append, pieces_equal, pieces_room, pieces_most}
-use Rattle.byte_list.specs.Bytes.{byte_in}
+use Rattle.format_bytes.specs.Bytes.{byte_in}
 use Rattle.byte_lines.specs.Items.{items_text}
 
 pub items_none : (radix : ℕ) (s bytes : List ℕ) (len first : ℕ) → items_text radix s bytes len first 0 ≡ []

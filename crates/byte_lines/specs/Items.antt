@@ -2,7 +2,7 @@
 use Rattle.std.specs.Prelude.{List, ◌++◌, ℕ, ◌+◌}
 use Rattle.bitvec.specs.Bits.{byte_at}
 use Rattle.output.specs.Pieces.{pieces}
-use Rattle.byte_list.specs.Bytes.{byte_in}
+use Rattle.format_bytes.specs.Bytes.{byte_in}
 
 -- The n bytes of an image from byte first on, with a separator before each.
 unfoldable pub items_text : ℕ → List ℕ → List ℕ → ℕ → ℕ → ℕ → List ℕ

@@ -6,7 +6,7 @@ ghost use Rattle.std.specs.Prelude.{◌≡◌, List, ◌++◌, ℕ, ◌+◌, ◌
 ghost use Rattle.output.specs.Ascii.{ascii};
 ghost use Rattle.output.specs.Pieces.{leading, every};
 ghost use Rattle.output.specs.Writes.{Writes};
-ghost use Rattle.byte_list.specs.Bytes.{radix_number, byte_in, byte_list};
+ghost use Rattle.format_bytes.specs.Bytes.{radix_number, byte_in, byte_list};
 ghost use Rattle.byte_lines.specs.Items.{items_text};
 ghost use Rattle.byte_lines.specs.Start.{address_comment};
 

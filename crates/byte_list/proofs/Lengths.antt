@@ -24,7 +24,7 @@ use Rattle.numbers.specs.declared.Letters.TheVariants.{Lower}
 use Rattle.numbers.specs.Digits.{byte_text, digit_count}
 use Rattle.numbers.proofs.Digits.{count_last, number_length}
 use Rattle.numbers.proofs.Decimal.{count_two, count_three}
-use Rattle.byte_list.specs.Bytes.{byte_in, byte_list}
+use Rattle.format_bytes.specs.Bytes.{byte_in, byte_list}
 
 -- A byte in radix 10 has its digits.
 pub decimal_length : (b : ℕ) → length (byte_in 10 b) ≡ digit_count 10 b

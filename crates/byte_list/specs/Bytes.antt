@@ -6,8 +6,8 @@ use Rattle.output.specs.Ascii.{ascii}
 use Rattle.output.specs.Pieces.{joined, every}
 use Rattle.numbers.specs.declared.Letters.TheVariants.{Lower}
 use Rattle.numbers.specs.Digits.{byte_text, number_text}
-use Rattle.byte_list.specs.declared.ByteRadix.{ByteRadix}
-use Rattle.byte_list.specs.declared.ByteRadix.TheVariants.{Decimal, Hex}
+use Rattle.format_bytes.specs.declared.ByteRadix.{ByteRadix}
+use Rattle.format_bytes.specs.declared.ByteRadix.TheVariants.{Decimal, Hex}
 
 -- The number of a radix, as a caller gives it.
 abbrev pub radix_number : ByteRadix → ℕ

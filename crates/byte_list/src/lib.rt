@@ -7,7 +7,7 @@ ghost use Rattle.bitvec.specs.Bits.{byte_at};
 ghost use Rattle.bitvec.specs.Size.{ceil_div};
 ghost use Rattle.output.specs.Pieces.{pieces};
 ghost use Rattle.numbers.specs.Digits.{digit_count};
-ghost use Rattle.byte_list.specs.Bytes.{radix_number, bad_radix, byte_in, byte_list};
+ghost use Rattle.format_bytes.specs.Bytes.{radix_number, bad_radix, byte_in, byte_list};
 
 use bitvec::{BitOffset, GoodImage, Image, WholeBytes};
 

@@ -8,7 +8,7 @@ use lib.ListN.{length, length-append}
 use Rattle.bitvec.specs.Size.{ceil_div}
 use Rattle.output.specs.Ascii.{ascii}
 use Rattle.numbers.proofs.Digits.{count_rises, count_small}
-use Rattle.byte_list.specs.Bytes.{byte_list}
+use Rattle.format_bytes.specs.Bytes.{byte_list}
 use Rattle.byte_lines.specs.Start.{address_comment}
 use Rattle.byte_lines.proofs.Lengths.{comment_length}
 use Rattle.format_c_array.specs.CArray.{address_width, c_array_text}

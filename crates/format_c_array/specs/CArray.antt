@@ -4,7 +4,7 @@ use Rattle.bitvec.specs.Size.{bad_size, ceil_div}
 use Rattle.output.specs.Ascii.{ascii}
 use Rattle.outcome.specs.Outcome.{Outcome, refused, in_room}
 use Rattle.numbers.specs.Digits.{digit_count}
-use Rattle.byte_list.specs.Bytes.{bad_radix, byte_list}
+use Rattle.format_bytes.specs.Bytes.{bad_radix, byte_list}
 use Rattle.byte_lines.specs.Start.{address_comment}
 
 -- The addresses are as wide as the last one.

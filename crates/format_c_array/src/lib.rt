@@ -5,7 +5,7 @@
 ghost use Rattle.std.specs.Prelude.{◌≡◌, ◌≤◌, length};
 ghost use Rattle.output.specs.Writes.{Writes};
 ghost use Rattle.outcome.specs.Outcome.{Exports};
-ghost use Rattle.byte_list.specs.Bytes.{radix_number};
+ghost use Rattle.format_bytes.specs.Bytes.{radix_number};
 ghost use Rattle.format_c_array.specs.CArray.{address_width, c_array_text, c_array_outcome};
 
 use bitvec::Image;

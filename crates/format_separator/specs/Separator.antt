@@ -3,7 +3,7 @@ use Rattle.std.specs.Prelude.{cond, ◌||◌, List, ℕ}
 use Rattle.bitvec.specs.Size.{bad_size}
 use Rattle.output.specs.Ascii.{ascii}
 use Rattle.outcome.specs.Outcome.{Outcome, refused, too_long, in_room}
-use Rattle.byte_list.specs.Bytes.{bad_radix, byte_list}
+use Rattle.format_bytes.specs.Bytes.{bad_radix, byte_list}
 
 unfoldable pub separator_text : ℕ → List ℕ → List ℕ → ℕ → List ℕ
 separator_text radix separator bytes len = byte_list radix separator (λ k. ascii "\n") bytes len

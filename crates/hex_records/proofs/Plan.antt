@@ -37,9 +37,12 @@ block_pieces bytes len unit b = flat_table (record_text bytes len) (chunk_at uni
 abbrev pub block_at : List ℕ → List ℕ → ℕ → Block
 block_at offsets sizes k = record { offset = get_or offsets k 0; size = get_or sizes k 0 }
 
+-- The text of its records.
+abbrev pub block_text : List ℕ → ℕ → ℕ → List ℕ → List ℕ → ℕ → List ℕ
+block_text bytes len unit offsets sizes k = flat_map (record_text bytes len) (block_plan unit (block_at offsets sizes k))
+
 pub plan_pieces : (bytes : List ℕ) (len unit : ℕ) (offsets sizes : List ℕ)
-    → flat_map (record_text bytes len) (hex_plan unit (blocks_at offsets sizes))
-    ≡ pieces (λ k. flat_map (record_text bytes len) (block_plan unit (block_at offsets sizes k))) (length offsets)
+    → flat_map (record_text bytes len) (hex_plan unit (blocks_at offsets sizes)) ≡ pieces (block_text bytes len unit offsets sizes) (length offsets)
 unfolding hex_plan blocks_at
 plan_pieces bytes len unit offsets sizes =
     flat_flat (record_text bytes len) (block_plan unit) (table (block_at offsets sizes) (length offsets))

@@ -2,4 +2,4 @@ pub mod Plan
 pub mod Text
 pub mod Intel
 pub mod Decoded
-pub mod Lent
+pub mod InnerLent

@@ -1,3 +1,5 @@
+mod Lengths
+mod High
 mod Cover
 pub mod Calls
 pub mod Conforms

@@ -4,14 +4,14 @@ ghost use Rattle.outcome.specs.Outcome.{refused, Exports};
 ghost use Rattle.span_list.specs.Range.{long_list, spans_checked};
 ghost use Rattle.blocks.specs.Blocks.{blocks_of};
 ghost use Rattle.hex_records.specs.Plan.{hex_plan};
-ghost use Rattle.hex_records.specs.Lent.{plan_of};
 ghost use Rattle.intelhex.specs.Hex.{plan_outcome, hex_outcome};
+ghost use Rattle.intelhex.specs.InnerLent.{plan_of};
 
+use crate::low::low;
+use crate::plan::{AddressUnit, HexPlan, hex_length};
+use crate::text::write_hex;
 use bitvec::Image;
 use blocks::get_blocks;
-use hex_length::{hex_length, low};
-use hex_records::{AddressUnit, HexPlan};
-use hex_text::write_hex;
 use span_list::SpanList;
 use outcome::{Export, Refusal};
 
@@ -26,12 +26,12 @@ fn format_plan(image: Image, plan: HexPlan, out: &mut [u8]) -> Export
     if out.len() < needed {
         return Err(Refusal::NoRoom(needed));
     }
-    Ok(write_hex(image, low_plan, out))
+    Ok(write_hex(out, image, low_plan))
 }
 
 // The text of the blocks that the spans make, or refusal 3, 5 or 8. The blocks are made in two arrays
 // that have a place for each span, unless there are too many spans: the smaller N is, the less memory
-// is set to zero, as in `blocks::get_blocks`. N is bounded as in `ordering::order_within`.
+// is set to zero, as in `blocks::find_blocks`. N is bounded as in `ordering::order_within`.
 fn format_spans<const N: usize>(
     image: Image,
     offsets: &[u32],

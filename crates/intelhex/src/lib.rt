@@ -4,6 +4,9 @@
 
 mod both;
 mod hex;
+mod low;
+mod plan;
+mod text;
 
 pub use both::{Both, format_both};
 pub use hex::format_intelhex;

@@ -1,7 +1,7 @@
 -- `byte_lines::put_byte_in` meets its contract: one case for each radix.
 -- Assumes nothing.
 use Rattle.output.proofs.Writes.{writes_then}
-use Rattle.byte_list.specs.Bytes.{byte_in}
+use Rattle.format_bytes.specs.Bytes.{byte_in}
 use Rattle.byte_lines.proofs.put_byte_in.Goals as goal
 
 pub returns-in-Decimal : goal.returns-in-Decimal

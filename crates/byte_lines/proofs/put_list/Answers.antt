@@ -9,7 +9,7 @@ use Rattle.bitvec.specs.Size.{ceil_div}
 use Rattle.output.specs.Pieces.{joined}
 use Rattle.output.proofs.Joined.{joined_none, joined_next, joined_room}
 use Rattle.output.proofs.Writes.{writes_nothing, writes_then, writes_length}
-use Rattle.byte_list.specs.Bytes.{radix_number, byte_list}
+use Rattle.format_bytes.specs.Bytes.{radix_number, byte_list}
 use Rattle.byte_lines.specs.Items.{items_text}
 use Rattle.byte_lines.proofs.Items.{gap, item, list_items, list_room}
 use Rattle.byte_lines.proofs.put_list.Goals as goal

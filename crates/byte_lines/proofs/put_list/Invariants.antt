@@ -3,7 +3,7 @@ use Prim.Native.Nat.{◌-◌, ◌≤◌}
 use lib.ListN.{length}
 use Rattle.output.specs.Pieces.{joined}
 use Rattle.output.specs.Writes.{Writes}
-use Rattle.byte_list.specs.Bytes.{radix_number}
+use Rattle.format_bytes.specs.Bytes.{radix_number}
 use Rattle.byte_lines.proofs.Items.{gap, item}
 use Rattle.byte_lines.proofs.put_list.Given as goal
 

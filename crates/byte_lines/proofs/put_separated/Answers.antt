@@ -7,7 +7,7 @@ use lib.ListN.{get_or, length-append}
 use borrow.Author.Rules.{rules}
 use Rattle.bitvec.specs.Bits.{byte_at}
 use Rattle.output.proofs.Writes.{writes_nothing, writes_then, writes_length}
-use Rattle.byte_list.specs.Bytes.{radix_number, byte_in}
+use Rattle.format_bytes.specs.Bytes.{radix_number, byte_in}
 use Rattle.byte_lines.proofs.Items.{items_none, items_next, items_room, lent_few, lent_byte}
 use Rattle.byte_lines.proofs.put_separated.Goals as goal
 

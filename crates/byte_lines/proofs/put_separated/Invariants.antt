@@ -1,7 +1,7 @@
 use mathlib.Core.Path.{◌≡◌}
 use lib.ListN.{length}
 use Rattle.output.specs.Writes.{Writes}
-use Rattle.byte_list.specs.Bytes.{radix_number}
+use Rattle.format_bytes.specs.Bytes.{radix_number}
 use Rattle.byte_lines.specs.Items.{items_text}
 use Rattle.byte_lines.proofs.put_separated.Given as goal
 

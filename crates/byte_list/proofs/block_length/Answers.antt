@@ -5,7 +5,7 @@ use borrow.Author.Rules.{rules}
 use Prim.Native.Nat.{◌^◌}
 use Rattle.std.proofs.lemmas.Iterator.{YieldsList-from_slice}
 use Rattle.std.proofs.lemmas.Iterator.Adapters.{fits_from_length, at_most_from_yields_List}
-use Rattle.byte_list.proofs.block_length.Goals as goal
+use Rattle.format_bytes.proofs.block_length.Goals as goal
 
 pub sum-requires-clause-fits : goal.sum-requires-clause-fits
 sum-requires-clause-fits c =

@@ -3,8 +3,8 @@
 use mathlib.Core.Path.{sym}
 use native.Mathlib.Omega.{arith}
 use Rattle.output.proofs.Pieces.{pieces_length}
-use Rattle.byte_list.proofs.Lengths.{hex_length}
-use Rattle.byte_list.proofs.bytes_length.Goals as goal
+use Rattle.format_bytes.proofs.Lengths.{hex_length}
+use Rattle.format_bytes.proofs.bytes_length.Goals as goal
 
 pub returns-in-Hex : goal.returns-in-Hex
 returns-in-Hex c =

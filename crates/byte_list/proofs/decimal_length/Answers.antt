@@ -10,9 +10,9 @@ use Rattle.std.proofs.lemmas.List.{get_or-take}
 use Rattle.bitvec.specs.Bits.{byte_at}
 use Rattle.output.specs.Pieces.{pieces}
 use Rattle.output.proofs.Pieces.{pieces_next}
-use Rattle.byte_list.specs.Bytes.{byte_in}
-use Rattle.byte_list.proofs.Lengths as lengths
-use Rattle.byte_list.proofs.decimal_length.Goals as goal
+use Rattle.format_bytes.specs.Bytes.{byte_in}
+use Rattle.format_bytes.proofs.Lengths as lengths
+use Rattle.format_bytes.proofs.decimal_length.Goals as goal
 
 pub loop-k-preserved : goal.loop-k-preserved
 loop-k-preserved c =

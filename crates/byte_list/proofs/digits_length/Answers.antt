@@ -9,8 +9,8 @@ use Rattle.std.proofs.lemmas.Iterator.{YieldsList-from_slice, YieldsList-from_ma
 use Rattle.std.proofs.lemmas.Iterator.Adapters.{fits_from_length, at_most_from_yields_List}
 use Rattle.std.proofs.lemmas.Iterator.Consumers.{sum_by_from_yields_List}
 use Rattle.numbers.specs.Digits.{digit_count}
-use Rattle.byte_list.proofs.Lengths.{parts_digits}
-use Rattle.byte_list.proofs.digits_length.Goals as goal
+use Rattle.format_bytes.proofs.Lengths.{parts_digits}
+use Rattle.format_bytes.proofs.digits_length.Goals as goal
 
 pub sum-front-requires-clause-fits : goal.sum-front-requires-clause-fits
 sum-front-requires-clause-fits c =

@@ -1,9 +1,9 @@
 -- `byte_list::list_length` meets its contract: the bytes and what stands between them.
 -- Assumes nothing.
 use mathlib.Core.Path.{◌∙◌}
-use Rattle.byte_list.specs.Bytes.{radix_number}
-use Rattle.byte_list.proofs.Lengths as lengths
-use Rattle.byte_list.proofs.list_length.Goals as goal
+use Rattle.format_bytes.specs.Bytes.{radix_number}
+use Rattle.format_bytes.proofs.Lengths as lengths
+use Rattle.format_bytes.proofs.list_length.Goals as goal
 
 pub returns-clause-length : goal.returns-clause-length
 returns-clause-length c s line e f =

@@ -8,7 +8,7 @@ use Rattle.hex_records.proofs.put_head.Goals as goal
 
 pub returns : goal.returns
 unfolding byte_text flat_map hex_bytes
-returns g c =
+returns c =
     rw c.address_bytes.ensures at
     (writes_then c.put-mark.ensures
     (writes_then c.put_byte-length.ensures

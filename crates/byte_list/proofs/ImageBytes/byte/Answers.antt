@@ -4,7 +4,7 @@ use mathlib.Core.Path.{sym}
 use native.Mathlib.Omega.{arith}
 use borrow.Author.Rules.{rules}
 use Rattle.bitvec.proofs.Words.{byte_whole}
-use Rattle.byte_list.proofs.ImageBytes.byte.Goals as goal
+use Rattle.format_bytes.proofs.ImageBytes.byte.Goals as goal
 
 pub returns-then-k-self : goal.returns-then-k-self
 returns-then-k-self c =

@@ -2,7 +2,7 @@
 -- Assumes nothing.
 use native.Mathlib.Omega.{arith}
 use Rattle.bitvec.specs.Size.{ceil_div}
-use Rattle.byte_list.proofs.ImageBytes.new.Goals as goal
+use Rattle.format_bytes.proofs.ImageBytes.new.Goals as goal
 
 pub invariant_of-result-clause-few : goal.invariant_of-result-clause-few
 unfolding ceil_div

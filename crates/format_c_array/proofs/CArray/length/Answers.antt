@@ -5,7 +5,7 @@ use mathlib.Core.List.{◌++◌}
 use native.Mathlib.Omega.{arith}
 use lib.ListN.{length-append}
 use Rattle.output.specs.Ascii.{ascii}
-use Rattle.byte_list.specs.Bytes.{radix_number}
+use Rattle.format_bytes.specs.Bytes.{radix_number}
 use Rattle.byte_lines.specs.Start.{address_comment}
 use Rattle.format_c_array.specs.CArray.{address_width}
 use Rattle.format_c_array.proofs.Lengths.{c_array_parts, address_length}

@@ -2,7 +2,7 @@
 -- Assumes nothing.
 use native.Mathlib.Omega.{arith}
 use Rattle.output.proofs.Writes.{writes_then, writes_length}
-use Rattle.byte_list.specs.Bytes.{radix_number}
+use Rattle.format_bytes.specs.Bytes.{radix_number}
 use Rattle.format_c_array.specs.CArray.{c_array_text}
 use Rattle.format_c_array.proofs.Lengths.{c_array_parts}
 use Rattle.format_c_array.proofs.CArray.write.Goals as goal
