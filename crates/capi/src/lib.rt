@@ -10,8 +10,8 @@ ghost use Rattle.intelhex.specs.Hex.{hex_outcome};
 ghost use Rattle.format_plain.specs.Binary.{binary_outcome, padded_in};
 ghost use Rattle.format_plain.specs.Str.{str_outcome};
 ghost use Rattle.format_readmem.specs.Readmem.{readmemb_outcome, readmemh_outcome};
-ghost use Rattle.format_separator.specs.Separator.{separator_outcome};
-ghost use Rattle.format_c_array.specs.CArray.{c_array_outcome};
+ghost use Rattle.format_bytes.specs.Separator.{separator_outcome};
+ghost use Rattle.format_bytes.specs.CArray.{c_array_outcome};
 ghost use Rattle.format_list.specs.List.{list_outcome};
 ghost use Rattle.format_mif.specs.Mif.{mif_outcome};
 ghost use Rattle.format_logisim.specs.Logisim.{logisim_outcome};
@@ -112,7 +112,7 @@ pub extern "C" fn riceshoal_format_separator(
     ensures { Returns (separator_outcome image.now bits radix separator.now (length out.old)) result value.new out.old out.new }
 {
     give(
-        format_separator::format_separator(Image::new(image, bits), radix, separator, out),
+        format_bytes::format_separator(Image::new(image, bits), radix, separator, out),
         value,
     )
 }
@@ -128,7 +128,7 @@ pub extern "C" fn riceshoal_format_c_array(
     ensures { Returns (c_array_outcome image.now bits radix (length out.old)) result value.new out.old out.new }
 {
     give(
-        format_c_array::format_c_array(Image::new(image, bits), radix, out),
+        format_bytes::format_c_array(Image::new(image, bits), radix, out),
         value,
     )
 }

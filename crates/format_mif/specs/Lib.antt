@@ -1,2 +1,1 @@
 pub mod Mif
-pub mod Line

@@ -16,7 +16,7 @@ fn binary(image: Image, out: &mut [u8]) -> Export {
 fn separator(row: &[u8], image: Image, out: &mut [u8]) -> Export {
     let radix = number(row, b"radix=");
     let separator = bytes(row, b"separator=", 0);
-    format_separator::format_separator(image, radix, separator.slice(), out)
+    format_bytes::format_separator(image, radix, separator.slice(), out)
 }
 
 fn list(row: &[u8], image: Image, out: &mut [u8]) -> Export {
@@ -130,7 +130,7 @@ pub(crate) fn export(
         Exporter::Readmemb => format_readmem::format_readmemb(image, number(row, b"width="), out),
         Exporter::Readmemh => format_readmem::format_readmemh(image, number(row, b"width="), out),
         Exporter::Separator => separator(row, image, out),
-        Exporter::CArray => format_c_array::format_c_array(image, number(row, b"radix="), out),
+        Exporter::CArray => format_bytes::format_c_array(image, number(row, b"radix="), out),
         Exporter::List => list(row, image, out),
         Exporter::Mif => format_mif::format_mif(image, out),
         Exporter::Logisim => {

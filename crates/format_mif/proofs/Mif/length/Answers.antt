@@ -7,5 +7,5 @@ use Rattle.format_mif.proofs.Mif.length.Goals as goal
 pub returns : goal.returns
 returns c =
     let m = c.args.self in
-    let whole = mif_length m.bytes.image.bytes.now m.bytes.image.len in
-    sym (rw (← m.bytes.all, ← m.last, ← c.digit_count-depth.ensures) at whole)
+    let whole = mif_length m.good.image.bytes.now m.good.image.len in
+    sym (rw (← m.all, ← m.last, ← c.digit_count-depth.ensures) at whole)

@@ -7,7 +7,7 @@ use Rattle.format_mif.proofs.Mif.write.Goals as goal
 pub returns : goal.returns
 unfolding mif_text
 returns c =
-    rw (← c.args.self.bytes.all, ← c.args.self.last)
+    rw (← c.args.self.all, ← c.args.self.last)
     (writes_then c.put_all-next.ensures
     (writes_then c.put_number-next.ensures
     (writes_then c.put_all-next-2.ensures
