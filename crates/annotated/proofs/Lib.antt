@@ -1,1 +1,3 @@
 mod Lengths
+mod Sound
+mod Fits

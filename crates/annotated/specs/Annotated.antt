@@ -7,7 +7,7 @@ use Rattle.sources.specs.Sources.{bad_text}
 use Rattle.listing.specs.declared.FormatAnnotatedOptions.{FormatAnnotatedOptions}
 use Rattle.listing.specs.Listing.{bad_annotated, Spans, annotated_text}
 pub use Rattle.listing.specs.Listing.{unequal}
-use Rattle.listing_spans.specs.Faults.{span_fault}
+use Rattle.annotated.specs.Faults.{span_fault}
 
 -- Refusals 6, 7 and 8, and the text, of spans in their range.
 unfoldable pub listed_outcome : List ℕ → ℕ → FormatAnnotatedOptions → Spans → List ℕ → List ℕ → ℕ → Outcome

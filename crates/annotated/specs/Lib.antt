@@ -1,1 +1,3 @@
 pub mod Annotated
+pub mod Faults
+pub mod InnerListed

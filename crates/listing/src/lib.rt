@@ -1,6 +1,6 @@
-// The columns of the annotated listing (document 01, module 9; the Rust's `format_annotated`): its
-// spans, its options, the widths of its columns, and its heading. A caller has shown that there is
-// room.
+// The parts of the annotated listing (document 01, module 9; the Rust's `format_annotated`): its spans,
+// its options, the widths of its columns, its heading, and the line of a span. A caller has shown that
+// there is room.
 #![tactic(auto)]
 
 ghost use Rattle.std.specs.Prelude.{◌≡◌, ◌≢◌, true, false, not, ◌||◌, eqb, ◌+◌, ◌≤◌, ◌<◌, max, length, get_or, MatchOption};
@@ -12,9 +12,12 @@ ghost use Rattle.ordering.specs.Order.{absent, offset_from};
 ghost use Rattle.listing.specs.Listing.{lent, location_from, unequal, Narrow, out_of_range, bad_annotated, content_need, addr_title, wider, widths_of, heading};
 
 use bitvec::BitOffset;
+pub use line::SpanLine;
 use numbers::{DigitWidth, Letters, Radix};
-use span_list::SpanList;
 use sources::NO_LOCATION;
+
+mod contents;
+mod line;
 
 // The spans of a listing, a column for each number of a span, as the C interface lends them; their lengths
 // may differ.
@@ -61,7 +64,7 @@ pub struct ListedSpans<'a> {
 impl<'a> SpanColumns<'a> {
     // The location of the span at a place, where its start is not the number of none.
     #[tactic(auto, unfolding(crate::specs::Listing::location_from))]
-    pub fn location(self, place: usize) -> Option<Location>
+    fn location(self, place: usize) -> Option<Location>
         requires { (place < length self.files.now) × (place < length self.starts.now) × (place < length self.ends.now) }
         ensures { result ≡ location_from (get_or self.entry.files.now place 0) (get_or self.entry.starts.now place 0) (get_or self.entry.ends.now place 0) }
     {
@@ -90,16 +93,6 @@ impl<'a> ListedSpans<'a> {
             return None;
         }
         Some(ListedSpans { columns })
-    }
-
-    // Their offsets and sizes.
-    pub fn list(self) -> SpanList<'a>
-        ensures { (result.offsets.now ≡ self.entry.columns.offsets.now) × (result.sizes.now ≡ self.entry.columns.sizes.now) }
-    {
-        SpanList {
-            offsets: self.columns.offsets,
-            sizes: self.columns.sizes,
-        }
     }
 
     // The span at a place.
@@ -203,19 +196,6 @@ impl ListingOptions {
     }
 }
 
-// How many digits a number has in the base of the addresses. Base 16, the most frequent one, has a call of
-// its own, which divides by no variable: with one call for all, tried, an address of eight digits takes
-// more than twice as long (the listing's target is 10 times the speed of the Rust).
-pub fn digit_count(value: u64, radix: u64) -> usize
-    requires { 2 ≤ radix }
-    ensures { result ≡ digit_count radix value }
-{
-    if radix == 16 {
-        return numbers::digit_count(value, 16);
-    }
-    numbers::digit_count(value, radix)
-}
-
 // The length of the title of the column of addresses.
 fn title_length(radix: Radix) -> usize
     ensures { (result ≡ length (addr_title radix.value)) × (result ≤ 14) }
@@ -251,9 +231,9 @@ impl Layout {
         let Layout { options, widths } = self;
         let radix = options.radix.value;
         let from = BitOffset::from(offset);
-        let byte = digit_count(from.byte() as u64, radix);
-        let bit = digit_count(from.shift() as u64, radix);
-        let address = digit_count(addr, radix);
+        let byte = numbers::digit_count(from.byte() as u64, radix);
+        let bit = numbers::digit_count(from.shift() as u64, radix);
+        let address = numbers::digit_count(addr, radix);
         let content = options.content_need(size);
         Widths {
             outp: widths.outp.max(byte),
@@ -294,11 +274,16 @@ impl Layout {
 
 // The widths over all spans that have an offset. The loop counts places, since one place is that of
 // three numbers: three iterators in step are no plainer.
-pub fn column_widths(options: ListingOptions, spans: SpanList, addrs: &[u64]) -> Widths
-    requires { length addrs.now ≡ length spans.offsets.now }
-    ensures measured { result ≡ widths_of options.given spans.entry.offsets.now spans.entry.sizes.now addrs.now (length spans.entry.offsets.now) }
+pub fn column_widths(options: ListingOptions, spans: ListedSpans) -> Widths
+    ensures measured { let c = spans.entry.columns in result ≡ widths_of options.given c.offsets.now c.sizes.now c.addrs.now (length c.offsets.now) }
     ensures small { Narrow result }
 {
+    let SpanColumns {
+        offsets,
+        sizes,
+        addrs,
+        ..
+    } = spans.columns;
     let title = title_length(options.radix);
     let mut widths = Widths {
         outp: 2,
@@ -306,9 +291,9 @@ pub fn column_widths(options: ListingOptions, spans: SpanList, addrs: &[u64]) ->
         addr: title,
         content: options.given.digits_per_group,
     };
-    for (p, &number) in spans.offsets.iter().enumerate() {
+    for (p, &number) in offsets.iter().enumerate() {
         if let Some(offset) = ordering::offset_of(number) {
-            widths = Layout { options, widths }.wider(offset, spans.sizes[p], addrs[p]);
+            widths = Layout { options, widths }.wider(offset, sizes[p], addrs[p]);
         }
     }
     widths

@@ -21,7 +21,7 @@ loop-p-preserved c =
       | in-Some w ↦
           let r = w.wider-widths.ensures in
           rw w.widths-is (
-            r.widths ∙ rw n.0 (sym (widths_there a.options.given a.spans.offsets.now a.spans.sizes.now a.addrs.now l.p _ (sym c.offset_of.ensures ∙ w.in-Some.is))),
+            r.widths ∙ rw n.0 (sym (widths_there a.options.given a.spans.columns.offsets.now a.spans.columns.sizes.now a.spans.columns.addrs.now l.p _ (sym c.offset_of.ensures ∙ w.in-Some.is))),
             omega (arith, r.position, n),
             omega (arith, r.position, n),
             omega (arith, r.others, n),
@@ -29,7 +29,7 @@ loop-p-preserved c =
           )
       | in_default w ↦
           rw w.widths-is (
-            n.0 ∙ sym (widths_absent a.options.given a.spans.offsets.now a.spans.sizes.now a.addrs.now l.p (sym c.offset_of.ensures ∙ w.in_default.is)),
+            n.0 ∙ sym (widths_absent a.options.given a.spans.columns.offsets.now a.spans.columns.sizes.now a.spans.columns.addrs.now l.p (sym c.offset_of.ensures ∙ w.in_default.is)),
             n.1,
             n.2,
             n.3,

@@ -1,3 +1,0 @@
-mod Contents
-mod Groups
-mod Pairs

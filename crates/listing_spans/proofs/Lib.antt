@@ -1,2 +1,0 @@
-mod Sound
-mod Fits
