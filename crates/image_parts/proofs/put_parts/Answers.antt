@@ -1,12 +1,64 @@
 -- `image_parts::put_parts` meets its contract: in turn i the parts before part i are written.
 -- Assumes nothing.
-use mathlib.Core.Path.{◌≡◌, refl}
-use Prim.Native.Nat.{◌+◌, ◌-◌, ◌*◌, ◌<◌}
+use mathlib.Core.Path.{refl}
+use Prim.Native.Nat.{◌+◌, ◌*◌}
 use native.Mathlib.Omega.{arith}
+use lib.ListN.{length-append}
 use Rattle.bitvec.specs.Size.{ceil_div}
 use Rattle.bitvec.proofs.Size.{ceil_inside}
 use Rattle.output.proofs.Pieces.{pieces_none, pieces_next, pieces_room}
-use Rattle.output.proofs.Writes.{writes_nothing, writes_then, writes_length}
+use Rattle.output.proofs.Writes.{writes_nothing, writes_then, writes_length, room_then}
+use Rattle.digits.specs.Run.{line_text}
 use Rattle.image_parts.specs.Parts.{part_bits}
-use Rattle.image_parts.specs.InnerParts.{part_text, parts_text}
+use Rattle.image_parts.specs.InnerParts.{part_text}
 use Rattle.image_parts.proofs.put_parts.Goals as goal
+
+pub loop-i-init : goal.loop-i-init
+loop-i-init g c = (rw pieces_none (writes_nothing _ _), refl)
+
+pub overflow_mul-from : goal.overflow_mul-from
+overflow_mul-from g c =
+    let p = c.args.parts in
+    record { fits = omega (arith, ceil_inside p.good.image.len p.width c.loop-i.i p.in_range.0 (omega (arith, c.parts-i-end.ensures, c.loop-i-test.true)), p.good.few) }
+
+pub overflow_sub-image : goal.overflow_sub-image
+overflow_sub-image g c =
+    let p = c.args.parts in
+    omega (arith, ceil_inside p.good.image.len p.width c.loop-i.i p.in_range.0 (omega (arith, c.parts-i-end.ensures, c.loop-i-test.true)))
+
+pub put_line-next-requires : goal.put_line-next-requires
+unfolding part_text part_bits
+put_line-next-requires g c =
+    let a = c.args in
+    let p = a.parts in
+    let i = p.good.image in
+    let l = c.loop-i in
+    let inside = ceil_inside i.len p.width l.i p.in_range.0 (omega (arith, c.parts-i-end.ensures, c.loop-i-test.true)) in
+    let tail = g.T.PartTail.tail a.tail.now in
+    let room = pieces_room (part_text a.kind i.bytes.now i.len p.width tail) l.i (ceil_div i.len p.width) (omega (arith, c.parts-i-end.ensures, c.loop-i-test.true)) in
+    let line = line_text a.kind i.bytes.now i.len (l.i * p.width) (part_bits i.len p.width l.i) in
+    (omega (arith, inside, p.in_range.1, p.good.few, c.min-count.ensures), rw c.min-count.ensures (omega (arith, room, length-append line (tail (l.i * p.width + part_bits i.len p.width l.i)), l.invariant.0.next, l.invariant.1, c.requires)))
+
+pub overflow_add-from : goal.overflow_add-from
+overflow_add-from g c =
+    let p = c.args.parts in
+    record { fits = omega (arith, ceil_inside p.good.image.len p.width c.loop-i.i p.in_range.0 (omega (arith, c.parts-i-end.ensures, c.loop-i-test.true)), p.good.few, c.min-count.ensures) }
+
+pub put_tail-next-requires : goal.put_tail-next-requires
+unfolding part_text part_bits
+put_tail-next-requires g c =
+    let a = c.args in
+    let p = a.parts in
+    let i = p.good.image in
+    let l = c.loop-i in
+    let tail = g.T.PartTail.tail a.tail.now in
+    let room = pieces_room (part_text a.kind i.bytes.now i.len p.width tail) l.i (ceil_div i.len p.width) (omega (arith, c.parts-i-end.ensures, c.loop-i-test.true)) in
+    let wrote = rw c.min-count.ensures at c.put_line-next.ensures in
+    rw c.min-count.ensures (room_then (tail (l.i * p.width + part_bits i.len p.width l.i)) wrote (omega (arith, room, l.invariant.0.next, l.invariant.1, c.requires)))
+
+pub loop-i-preserved : goal.loop-i-preserved
+unfolding part_text part_bits
+loop-i-preserved g c =
+    let l = c.loop-i in
+    let part = writes_then (rw c.min-count.ensures at c.put_line-next.ensures) (rw c.min-count.ensures at c.put_tail-next.ensures) in
+    (rw pieces_next (writes_then l.invariant.0 part), omega (arith, l.invariant.1, writes_length part))

@@ -4,4 +4,4 @@ use Rattle.output.proofs.Writes.{writes_then}
 use Rattle.format_logisim.proofs.ChunkTailPartTail.put_tail.Goals as goal
 
 pub returns : goal.returns
-returns c = writes_then c.put-next.ensures c.put_every.ensures
+returns c = rw (← c.byte.ensures) (writes_then c.put-next.ensures c.put_every.ensures)
