@@ -5,7 +5,8 @@ use mathlib.Core.List.{◌++◌}
 use Prim.Native.Nat.{ℕ, ◌+◌, ◌-◌, ◌*◌, ◌≤◌}
 use native.Mathlib.Omega.{arith}
 use Rattle.digits.specs.declared.digit_run.DigitRun.{DigitRun}
-use Rattle.digits.specs.Run.{run, run_of}
+use Rattle.digits.specs.Run.{run}
+use Rattle.digits.specs.InnerRun.{run_of}
 use Rattle.digits.proofs.Run.{run_append}
 
 pub run_behind : (r s : DigitRun) (n : ℕ) → n ≤ r.count → (s.image ≡ r.image) × (s.width ≡ r.width) × (s.from.0 ≡ r.from.0 + n * r.width.bits) × (s.count ≡ r.count - n)

@@ -1,2 +1,4 @@
+pub mod Base
 pub mod Run
+pub mod Bytes
 pub mod Behind

@@ -3,26 +3,24 @@
 use mathlib.Core.Path.{◌≡◌, refl, sym, ap, ◌∙◌}
 use mathlib.Core.Bool.{Bool, true, false, cond}
 use mathlib.Core.List.{List, [], ◌∷◌, ◌++◌}
-use Prim.Native.Nat.{ℕ, zero, suc, ◌+◌, ◌-◌, ◌*◌, ◌/◌, ◌%◌, ◌^◌, ◌<◌, ◌≤◌, min}
-use native.Mathlib.Numerals.{add-one}
+use Prim.Native.Nat.{ℕ, ◌+◌, ◌-◌, ◌*◌, ◌/◌, ◌%◌, ◌^◌, ◌<◌, ◌≤◌, min}
 use native.Mathlib.Omega.{arith}
-use native.Mathlib.Nat.{mul-one, add-mul, zero-mul, suc-mul}
-use lib.Pow.{shr-shr}
+use native.Mathlib.Nat.{mul-one, add-mul, suc-mul}
 use lib.Dec.{eqb}
 use lib.ListN.{length, length-append}
 use borrow.Author.Tests.{eqb-true, eqb-false}
 use Rattle.output.specs.Pieces.{pieces}
-use Rattle.output.proofs.Order.{stride}
 use Rattle.output.proofs.Pieces.{pieces_none, pieces_next, pieces_append, pieces_equal, pieces_length}
 use Rattle.bitvec.specs.Bits.{bits_at}
+use Rattle.bitvec.specs.Size.{ceil_div}
 use Rattle.bitvec.proofs.Bits.{bits_small}
-use Rattle.bitvec.proofs.Words.{bits_within, bits_cut}
+use Rattle.bitvec.proofs.Words.{bits_within}
 use Rattle.numbers.specs.declared.Letters.TheVariants.{Lower}
 use Rattle.numbers.specs.Digits.{digit_char, byte_text, digits_of}
-use Rattle.rows.specs.declared.ByteDigits.{ByteDigits}
-use Rattle.rows.specs.declared.ByteDigits.TheVariants.{Binary, Hex}
-use Rattle.rows.specs.Rows.{digits_per_byte, digit_bits, byte_digits, bytes_text}
-use Rattle.digits.specs.Run.{digit_at, run, short_digit, hex_line}
+use Rattle.digits.specs.declared.ByteDigits.{ByteDigits}
+use Rattle.digits.specs.declared.ByteDigits.TheVariants.{Binary, Hex}
+use Rattle.digits.specs.Bytes.{digits_per_byte, digit_bits, byte_digits}
+use Rattle.digits.specs.Run.{digit_at, run, short_digit, hex_line, line_text}
 
 pub run_none : (bytes : List ℕ) (len w i : ℕ) → run bytes len w i 0 ≡ []
 unfolding run
@@ -74,6 +72,12 @@ line_length bytes len i m =
     length-append (short_digit bytes len (m % 4) i) (run bytes len 4 (i + m % 4) (m / 4))
     ∙ rw (short_length bytes len (m % 4) i, run_length bytes len 4 (i + m % 4) (m / 4)) (omega arith)
 
+-- A line of either kind has one for each part of a digit's bits.
+pub line_digits : (kind : ByteDigits) (bytes : List ℕ) (len i m : ℕ) → length (line_text kind bytes len i m) ≡ ceil_div m (digit_bits kind)
+unfolding line_text ceil_div
+line_digits Binary bytes len i m = run_length bytes len 1 i m ∙ omega arith
+line_digits Hex bytes len i m = line_length bytes len i m
+
 -- The two digits of a byte.
 pub byte_digits_lem : (b : ℕ) → b < 256 → byte_text Lower b ≡ digits_of 4 2 b
 unfolding byte_text digits_of pieces
@@ -101,34 +105,12 @@ byte_next kind bytes len i k =
     let more : (k + 1) * digits_per_byte kind ≡ k * digits_per_byte kind + digits_per_byte kind = omega (arith, suc-mul k (digits_per_byte kind)) in
     rw (more, run_append bytes len (digit_bits kind) i (k * digits_per_byte kind) (digits_per_byte kind), whole_bits kind k, byte_run kind bytes len (i + k * 8))
 
--- Whole bytes are a run of digits.
-pub bytes_run : (kind : ByteDigits) (bytes : List ℕ) (len i m : ℕ)
-    → bytes_text kind bytes len i m ≡ run bytes len (digit_bits kind) (i * 8) (m * digits_per_byte kind)
-unfolding bytes_text pieces
-bytes_run kind bytes len i zero = rw zero-mul (sym (run_none bytes len (digit_bits kind) (i * 8)))
-bytes_run kind bytes len i (suc m) =
-    let place : i * 8 + m * 8 ≡ (i + m) * 8 = omega arith in
-    rw (bytes_run kind bytes len i m, ← add-one m, byte_next kind bytes len (i * 8) m, place)
-
 -- The digits of whole bytes, as many as are among some digits.
 pub whole_digits : (kind : ByteDigits) (whole count : ℕ) → whole ≤ count / digits_per_byte kind → whole * digits_per_byte kind ≤ count
 whole_digits Binary whole count h = omega arith
 whole_digits Hex whole count h = omega arith
 
--- Eight digits that lie in eight whole bytes, cut out of the number that these make.
-pub word_run : (bytes : List ℕ) (len n at shift w word : ℕ) → word ≡ bits_at bytes n (at * 8) 64 → shift + 8 * w ≤ 64 → at * 8 + 64 ≤ len → at * 8 + 64 ≤ n
-    → run bytes len w (at * 8 + shift) 8 ≡ digits_of w 8 (word / 2 ^ (64 - (shift + 8 * w)))
-unfolding run digits_of digit_at
-word_run bytes len n at shift w word e h l m =
-    pieces_equal _ _ 8
-    (λ k p.
-    let behind = 64 - (shift + 8 * w) in
-    let before = stride k 8 w p in
-    let rest : (7 - k) * w + (k * w + w) ≡ 8 * w = omega (arith, add-mul (7 - k) (k + 1) w, add-mul k 1 w, all k p) in
-    let parts : shift + k * w + w + (behind + (7 - k) * w) ≡ 64 = omega arith in
-    let place : at * 8 + shift + k * w ≡ at * 8 + (shift + k * w) = omega arith in
-    let cut = rw parts at (bits_cut bytes len n (at * 8) (shift + k * w) w (behind + (7 - k) * w) (omega arith) (omega arith)) in
-    ap (λ (d : ℕ). digit_char Lower d ∷ []) (rw (place, shr-shr word behind ((7 - k) * w), e) cut))
-  where
-    all : (k : ℕ) → k < 8 → (7 - k + (k + 1)) * w ≡ 8 * w
-    all k p = ap (λ (x : ℕ). x * w) (omega arith)
+-- They are within the bits of those.
+pub bytes_few : (kind : ByteDigits) (i w whole count : ℕ) → w ≡ digit_bits kind → whole * digits_per_byte kind ≤ count → i + count * w < 2 ^ 64 → i + whole * 8 < 2 ^ 64
+bytes_few Binary i w whole count e h l = omega (arith, rw e at l)
+bytes_few Hex i w whole count e h l = omega (arith, rw e at l)

@@ -1,1 +1,4 @@
+pub mod Base
+pub mod Bytes
 pub mod Run
+pub mod InnerRun

@@ -10,15 +10,25 @@ use native.Mathlib.Nat.{zero-mul, suc-mul, add-mul, mul-le-mul, div-le_self, div
 use mir.Val.{bool_byte}
 use lib.Dec.{eqb}
 use lib.ListN.{length, length-append}
+use Rattle.bitvec.specs.Size.{ceil_div}
 use Rattle.bitvec.proofs.Size.{ceil_whole, ceil_short}
 use Rattle.output.specs.Ascii.{ascii}
 use Rattle.output.specs.Pieces.{pieces, every}
 use Rattle.output.proofs.Pieces.{pieces_next}
 use Rattle.output.proofs.Joined.{every_length}
 use Rattle.image_parts.specs.Parts.{part_bits}
+use Rattle.digits.specs.declared.ByteDigits.TheVariants.{Hex}
+use Rattle.digits.specs.Run.{line_text}
 use Rattle.digits.proofs.Run.{line_length}
+use Rattle.image_parts.specs.InnerParts.{part_text, parts_text}
 use Rattle.format_logisim.specs.Logisim.{chunk_text, chunk_at, logisim_text}
-use Rattle.format_logisim.specs.Short.{breaks}
+use Rattle.format_logisim.specs.InnerBreaks.{breaks}
+
+-- The file is the first line and the parts of the image, with what stands behind each.
+pub logisim_parts : (bytes : List ℕ) (len width : ℕ)
+    → logisim_text bytes len width ≡ ascii "v2.0 raw\n" ++ parts_text Hex bytes len width (λ end. ascii " " ++ every 16 (end / 8) (ascii "\n")) (ceil_div len width)
+unfolding logisim_text chunk_text part_text line_text
+logisim_parts bytes len width = refl
 
 -- A chunk of Logisim: a digit for each four bits, a space, and what follows it.
 pub chunk_parts : (bytes : List ℕ) (len i m : ℕ)

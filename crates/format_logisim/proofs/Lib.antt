@@ -1,3 +1,1 @@
 mod Lengths
-mod Whole
-mod Short

@@ -1,3 +1,2 @@
 pub mod Logisim
-pub mod Short
-pub mod Chunks
+pub mod InnerBreaks

@@ -1,3 +1,1 @@
 mod Lengths
-mod Narrow
-pub mod Whole

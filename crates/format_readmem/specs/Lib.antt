@@ -1,2 +1,1 @@
 pub mod Readmem
-pub mod Runs

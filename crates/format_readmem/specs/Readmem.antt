@@ -4,15 +4,10 @@ use Rattle.bitvec.specs.Size.{bad_size, ceil_div}
 use Rattle.output.specs.Ascii.{ascii}
 use Rattle.output.specs.Pieces.{pieces}
 use Rattle.outcome.specs.Outcome.{Outcome, refused, outside, in_room}
-use Rattle.digits.specs.Run.{run, hex_line}
+use Rattle.digits.specs.Run.{line_text}
 use Rattle.image_parts.specs.Parts.{part_bits}
-use Rattle.rows.specs.declared.ByteDigits.{ByteDigits}
-use Rattle.rows.specs.declared.ByteDigits.TheVariants.{Binary, Hex}
-
--- m bits from bit i on: each bit a digit, or in hexadecimal, where a line that is not a multiple of 4 bits starts with a short digit.
-unfoldable pub line_text : ByteDigits → List ℕ → ℕ → ℕ → ℕ → List ℕ
-line_text Binary bytes len i m = run bytes len 1 i m
-line_text Hex bytes len i m = hex_line bytes len i m
+use Rattle.digits.specs.declared.ByteDigits.{ByteDigits}
+use Rattle.digits.specs.declared.ByteDigits.TheVariants.{Binary, Hex}
 
 -- Line i with its newline, the last one perhaps shorter.
 unfoldable pub line_at : ByteDigits → List ℕ → ℕ → ℕ → ℕ → List ℕ

@@ -1,20 +1,20 @@
 -- Laws of the parts that an image is cut into, and of texts with a piece for each part.
 -- Assumes nothing.
-use mathlib.Core.Path.{◌≡◌, refl, sym, ap, ◌∙◌}
+use mathlib.Core.Path.{◌≡◌, refl, ap, ◌∙◌}
 use mathlib.Core.Bool.{Bool, true, false, cond}
-use mathlib.Core.List.{List, ◌++◌}
-use Prim.Native.Nat.{ℕ, ◌+◌, ◌-◌, ◌*◌, ◌/◌, ◌%◌, ◌<◌, ◌≤◌}
+use mathlib.Core.List.{List}
+use Prim.Native.Nat.{ℕ, ◌+◌, ◌*◌, ◌/◌, ◌%◌, ◌<◌}
 use native.Mathlib.Omega.{arith}
-use native.Mathlib.Nat.{div-add-mod', mod-lt, le_of_mul-le-mul_right}
+use native.Mathlib.Nat.{div-add-mod', mod-lt}
 use lib.Dec.{eqb}
 use lib.ListN.{length, length-append}
 use borrow.Author.Tests.{eqb-true, eqb-false}
 use Rattle.bitvec.specs.Size.{ceil_div}
-use Rattle.bitvec.proofs.Size.{ceil_whole, ceil_short, ceil_covers}
+use Rattle.bitvec.proofs.Size.{ceil_whole, ceil_short}
 use Rattle.output.specs.Pieces.{pieces}
 use Rattle.output.proofs.Order.{stride}
-use Rattle.output.proofs.Pieces.{pieces_none, pieces_next, pieces_append, pieces_length}
-use Rattle.image_parts.specs.Parts.{part_bits, parts_from}
+use Rattle.output.proofs.Pieces.{pieces_next, pieces_length}
+use Rattle.image_parts.specs.Parts.{part_bits}
 
 -- A part before the last whole one is whole.
 whole : (len width i : ℕ) → 0 < width → i < len / width → part_bits len width i ≡ width
@@ -42,29 +42,3 @@ parts_length f g len width p e = go (eqb (len % width) 0) refl
         rw (ceil_short len width p (omega (arith, eqb-false (len % width) 0 h)), pieces_next)
         (length-append (pieces f (len / width)) (f (len / width))
         ∙ rw (front, e (len / width), short len width p))
-
--- Parts that are within the image are not more than all.
-pub parts_most : (len width n : ℕ) → 0 < width → n * width ≤ len → n ≤ ceil_div len width
-parts_most len width n p h = le_of_mul-le-mul_right {k = width} (omega (arith, ceil_covers len width p)) p
-
--- All parts: the first n and the others.
-pub parts_split : (text : ℕ → ℕ → List ℕ) (len width n : ℕ) → n ≤ ceil_div len width
-    → pieces (λ k. text (k * width) (part_bits len width k)) (ceil_div len width)
-    ≡ pieces (λ k. text (k * width) (part_bits len width k)) n ++ parts_from text len width n
-unfolding parts_from
-parts_split text len width n h =
-    let all : n + (ceil_div len width - n) ≡ ceil_div len width = omega arith in
-    let part : ℕ → List ℕ = λ k. text (k * width) (part_bits len width k) in
-    ap (pieces part) (sym all) ∙ pieces_append part n (ceil_div len width - n)
-
-pub split_length : (text : ℕ → ℕ → List ℕ) (len width n : ℕ) → n ≤ ceil_div len width
-    → length (pieces (λ k. text (k * width) (part_bits len width k)) (ceil_div len width))
-    ≡ length (pieces (λ k. text (k * width) (part_bits len width k)) n) + length (parts_from text len width n)
-split_length text len width n h =
-    ap length (parts_split text len width n h) ∙ length-append (pieces (λ k. text (k * width) (part_bits len width k)) n) (parts_from text len width n)
-
--- All parts, counted from the first.
-pub parts_all : (text : ℕ → ℕ → List ℕ) (len width : ℕ)
-    → pieces (λ k. text (k * width) (part_bits len width k)) (ceil_div len width) ≡ parts_from text len width 0
-parts_all text len width =
-    rw (pieces_none (λ k. text (k * width) (part_bits len width k))) at (parts_split text len width 0 (omega arith))

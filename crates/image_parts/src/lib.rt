@@ -1,13 +1,15 @@
-// An image cut into parts of one width, the last one perhaps shorter.
+// An image cut into parts of one width, the last one perhaps shorter, and the text of its parts: the
+// digits of each, and what stands behind them.
 #![tactic(auto)]
 
 ghost use Rattle.std.specs.Prelude.{◌≡◌, true, false, MatchOption, List, ℕ, cond, ◌+◌, ◌-◌, ◌*◌, ◌/◌, ◌%◌, ◌≤◌, ◌<◌, ◌^◌, eqb, length};
 ghost use Rattle.bitvec.specs.Size.{ceil_div};
 ghost use Rattle.output.specs.Writes.{Writes};
 ghost use Rattle.outcome.specs.Outcome.{outside};
-ghost use Rattle.image_parts.specs.Parts.{parts_from};
+ghost use Rattle.image_parts.specs.InnerParts.{parts_text};
 
 use bitvec::{BitOffset, GoodImage};
+use digits::ByteDigits;
 use outcome::outside;
 
 // An image and the width of its parts, in bits.
@@ -18,15 +20,15 @@ pub struct ImageParts<'a> {
     pub ghost in_range: { (0 < width) × (width ≤ 4096) },
 }
 
-// What writes a part of an image.
-pub trait PutPart {
-    // The text of so many bits from a bit on.
-    ghost text: { Self → ℕ → ℕ → List ℕ };
+// What stands behind the digits of a part.
+pub trait PartTail {
+    // Its text, by the bit where the part ends.
+    ghost tail: { Self → ℕ → List ℕ };
 
-    // Stores `count` bits from `from` on.
-    fn put_part(&self, out: &mut [u8], at: usize, from: BitOffset, count: usize) -> usize
-        requires { (from.0 + count < 2 ^ 64) × (at + length (text self.now from.0 count) ≤ length out.old) }
-        ensures { Writes (text self.now from.0 count) out.old at out.new result };
+    // Stores it.
+    fn put_tail(&self, out: &mut [u8], at: usize, end: BitOffset) -> usize
+        requires { at + length (tail self.now end.0) ≤ length out.old }
+        ensures { Writes (tail self.now end.0) out.old at out.new result };
 }
 
 impl<'a> ImageParts<'a> {
@@ -40,33 +42,26 @@ impl<'a> ImageParts<'a> {
         }
         Some(ImageParts { good, width })
     }
-
-    // How many parts there are.
-    pub fn count(self) -> usize
-        ensures { result ≡ ceil_div self.entry.good.image.len self.entry.width }
-    {
-        bitvec::parts(self.good.image.len, self.width)
-    }
 }
 
-// Stores the parts from part `first` on. The offset of a part is computed from its number.
-pub fn put_parts<P: PutPart>(
+// Stores the text of the parts. The offset of a part is computed from its number.
+pub fn put_parts<T: PartTail>(
     out: &mut [u8],
     at: usize,
+    kind: ByteDigits,
     parts: ImageParts,
-    first: usize,
-    writer: &P,
+    tail: &T,
 ) -> usize
-    requires size { first ≤ ceil_div parts.good.image.len parts.width }
-    requires room { at + length (parts_from (P.text writer.now) parts.good.image.len parts.width first) ≤ length out.old }
-    ensures { Writes (parts_from (P.text writer.now) parts.entry.good.image.len parts.entry.width first) out.old at out.new result }
+    requires { at + length (parts_text kind parts.good.image.bytes.now parts.good.image.len parts.width (T.tail tail.now) (ceil_div parts.good.image.len parts.width)) ≤ length out.old }
+    ensures { Writes (parts_text kind parts.entry.good.image.bytes.now parts.entry.good.image.len parts.entry.width (T.tail tail.now) (ceil_div parts.entry.good.image.len parts.entry.width)) out.old at out.new result }
 {
+    let image = parts.good.image;
     let mut next = at;
-    let len = parts.good.image.len;
-    for i in first..parts.count() {
-        let offset = i * parts.width;
-        let count = parts.width.min(len - offset);
-        next = writer.put_part(out, next, BitOffset(offset), count);
+    for i in 0..bitvec::parts(image.len, parts.width) {
+        let from = i * parts.width;
+        let count = parts.width.min(image.len - from);
+        next = digits::put_line(out, next, kind, image, BitOffset(from), count);
+        next = tail.put_tail(out, next, BitOffset(from + count));
     }
     next
 }

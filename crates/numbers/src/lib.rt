@@ -1,10 +1,11 @@
 // Digits and numbers as text, written into the output buffer.
 #![tactic(auto)]
 
+ghost use Rattle.std.specs.Int.{w64, to_le_bytes};
 ghost use Rattle.std.specs.Prelude.{◌≡◌, ◌+◌, ◌≤◌, ◌<◌, max, length};
 ghost use Rattle.output.specs.Writes.{Writes};
 ghost use Rattle.numbers.specs.declared.Letters.TheVariants.{Lower};
-ghost use Rattle.numbers.specs.Digits.{letter_ten, digit_char, byte_text, digit_count, number_text, padded};
+ghost use Rattle.numbers.specs.Digits.{letter_ten, digit_char, byte_text, digits_of, digit_count, number_text, padded};
 
 use output::{put, put_fill};
 
@@ -78,6 +79,25 @@ pub fn put_byte(out: &mut [u8], at: usize, letters: Letters, byte: u8) -> usize
 {
     let next = put(out, at, digit_char(letters, byte / 16));
     put(out, next, digit_char(letters, byte % 16))
+}
+
+// The bits of a byte as binary digits, one in each byte of a word, the first digit lowest: seven by a
+// product that moves each bit to the end of a byte, and the last one by a shift.
+fn digit_word(byte: u8) -> u64
+    ensures { to_le_bytes w64 result ≡ digits_of 1 8 byte }
+{
+    let bits = byte as u64;
+    let seven = ((bits * 0x40_2010_0804_0201) >> 7) & 0x1_0101_0101_0101;
+    let ones = seven | ((bits & 1) << 56);
+    ones | 0x3030_3030_3030_3030
+}
+
+// Stores a byte as eight binary digits: those of a word, so that the compiler makes one store of them.
+pub fn put_bits(out: &mut [u8], at: usize, byte: u8) -> usize
+    requires { at + 8 ≤ length out.old }
+    ensures { Writes (digits_of 1 8 byte) out.old at out.new result }
+{
+    output::put_all(out, at, &digit_word(byte).to_le_bytes())
 }
 
 // How many decimal digits a byte has. Beside `digit_count`, which divides in a loop: by comparisons the

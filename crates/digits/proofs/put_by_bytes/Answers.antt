@@ -1,39 +1,14 @@
--- `digits::put_by_bytes` meets its contract: after k turns the digits of k bytes are written.
+-- `digits::put_by_bytes` meets its contract: whole bytes, and then the digits behind them.
 -- Assumes nothing.
-use mathlib.Core.Path.{◌≡◌, refl}
-use Prim.Native.Nat.{◌*◌, ◌/◌, ◌≤◌}
-use native.Mathlib.Nat.{zero-mul, suc-mul}
-use native.Mathlib.Omega.{arith}
-use borrow.Author.Rules.{rules}
-use Rattle.output.proofs.Writes.{writes_nothing, writes_then, writes_length}
-use Rattle.rows.specs.Rows.{digits_per_byte}
-use Rattle.rows.proofs.Rows.{byte_length}
-use Rattle.digits.proofs.Run.{run_none, byte_next, whole_digits}
+use Prim.Native.Nat.{◌*◌, ◌/◌}
+use native.Mathlib.Nat.{div-mul-le_self}
+use Rattle.output.proofs.Writes.{writes_then}
 use Rattle.digits.proofs.Behind.{run_behind}
 use Rattle.digits.proofs.put_by_bytes.Goals as goal
-
-pub loop-k-init : goal.loop-k-init
-loop-k-init c = (search rules, search rules, rw (zero-mul, run_none _ _ _ _) (writes_nothing _ _), refl)
-
-pub loop-k-preserved : goal.loop-k-preserved
-loop-k-preserved c =
-    let l = c.loop-k in
-    let a = c.args in
-    let r = a.digits in
-    let written = c.put_digits-next.ensures in (
-      search rules,
-      omega (arith, written.next, byte_length a.kind c.read_byte-byte.result, l.invariant.1, suc-mul l.k (digits_per_byte a.kind)),
-      rw (c.requires.0, byte_next a.kind r.image.bytes.now r.image.len r.from.0 l.k, ← c.plus.ensures, ← c.read_byte-byte.ensures) (writes_then (rw c.requires.0 at l.invariant.2) written),
-      omega (arith, l.invariant.3, writes_length written),
-    )
 
 pub returns : goal.returns
 returns c =
     let r = c.args.digits in
-    let whole = r.count / c.per_byte.result in
-    let per = c.per_byte.ensures in
-    let again = c.per_byte-2.ensures in
-    let done : c.loop-k.k ≡ whole = omega arith in
-    let within : whole * c.per_byte-2.result ≤ r.count = rw (per, again) (whole_digits c.args.kind (r.count / digits_per_byte c.args.kind) r.count (omega arith)) in
-    rw (run_behind r c.behind.result (whole * c.per_byte-2.result) within c.behind.ensures.rest)
-    (writes_then (rw (done, ← again) at c.loop-k.invariant.2) c.put_each.ensures)
+    let per = c.per_byte-per.result in
+    rw (run_behind r c.behind.result (r.count / per * per) (div-mul-le_self r.count per) c.behind.ensures.rest)
+    (writes_then (rw (← c.per_byte-per.ensures) at c.put_bytes-next.ensures) c.put_each.ensures)
