@@ -12,10 +12,10 @@ use Rattle.output.specs.Ascii.{ascii}
 use Rattle.output.specs.Pieces.{pieces, leading, joined, every}
 use Rattle.output.proofs.Pieces.{pieces_equal}
 use Rattle.output.proofs.Joined.{joined_next, joined_room}
-use Rattle.rows.specs.declared.ByteDigits.{ByteDigits}
-use Rattle.rows.specs.declared.ByteDigits.TheVariants.{Binary, Hex}
-use Rattle.rows.specs.Rows.{digits_per_byte, digit_bits, byte_digits, bytes_text, rows_text}
-use Rattle.rows.proofs.Rows.{rows_none, rows_length, singles_next}
+use Rattle.digits.specs.declared.ByteDigits.{ByteDigits}
+use Rattle.digits.specs.declared.ByteDigits.TheVariants.{Binary, Hex}
+use Rattle.digits.specs.Bytes.{digits_per_byte, digit_bits, byte_digits, bytes_text, rows_text}
+use Rattle.digits.proofs.Bytes.{rows_none, rows_length, singles_next}
 use Rattle.digits.specs.Run.{digit_at, run}
 use Rattle.digits.proofs.Run.{bytes_run}
 use Rattle.dump_line.specs.Line.{dump_digit, printed, dump_char, dump_byte, digit_column}

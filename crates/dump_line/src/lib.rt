@@ -6,12 +6,12 @@ ghost use Rattle.std.specs.Prelude.{◌≡◌, cond, List, ℕ, ◌+◌, ◌*◌
 ghost use Rattle.output.specs.Ascii.{ascii};
 ghost use Rattle.output.specs.Writes.{Writes};
 ghost use Rattle.numbers.specs.Digits.{digit_count};
-ghost use Rattle.rows.specs.Rows.{digits_per_byte, digit_bits, rows_text};
+ghost use Rattle.digits.specs.Bytes.{digits_per_byte, digit_bits, rows_text};
 ghost use Rattle.dump_line.specs.Line.{dump_digit, printed, dump_char, dump_byte, digit_column, char_column, dump_line};
 
 use bitvec::{BitOffset, Image, WholeBytes};
 use numbers::{Letters, Radix};
-use rows::ByteDigits;
+use digits::ByteDigits;
 
 // A line: `count` bytes of an image from byte `first` on, in digits of `width` bits.
 #[derive(Clone, Copy)]

@@ -9,7 +9,7 @@ use Rattle.bitvec.specs.Size.{ceil_div}
 use Rattle.output.specs.Pieces.{pieces, leading, joined}
 use Rattle.output.proofs.Pieces.{pieces_length}
 use Rattle.output.proofs.Joined.{joined_length}
-use Rattle.bases.specs.Base.{base_bits}
+use Rattle.digits.specs.Base.{base_bits}
 use Rattle.digits.proofs.Run.{run_length}
 use Rattle.format_list.specs.declared.FormatListOptions.{FormatListOptions}
 use Rattle.format_list.specs.List.{group_bits, group_text, between_groups, list_text}

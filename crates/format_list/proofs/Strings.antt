@@ -12,7 +12,7 @@ use borrow.Author.Tests.{eqb-false}
 use Rattle.output.specs.Pieces.{pieces, leading, joined}
 use Rattle.output.proofs.Pieces.{pieces_equal}
 use Rattle.output.proofs.Joined.{either_length}
-use Rattle.bases.specs.Base.{base_bits}
+use Rattle.digits.specs.Base.{base_bits}
 use Rattle.digits.specs.Run.{run}
 use Rattle.format_list.specs.declared.shape.ListOptions.{ListOptions}
 use Rattle.format_list.specs.List.{group_text, between_groups}

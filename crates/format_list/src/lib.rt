@@ -6,7 +6,7 @@ ghost use Rattle.std.specs.Prelude.{◌≡◌, true, false, MatchOption, ◌||�
 ghost use Rattle.output.specs.Pieces.{pieces, leading};
 ghost use Rattle.output.specs.Writes.{Writes};
 ghost use Rattle.outcome.specs.Outcome.{too_long, Exports};
-ghost use Rattle.bases.specs.Base.{base_bits};
+ghost use Rattle.digits.specs.Base.{base_bits};
 ghost use Rattle.format_list.specs.List.{list_outcome};
 ghost use Rattle.format_list.specs.InnerGroups.{bad_given, every_of, second_of, between_of, group_written, count_of, list_of};
 
@@ -64,7 +64,7 @@ impl<'a> ListOptions<'a> {
     fn new(options: FormatListOptions, strings: ListStrings<'a>) -> Option<ListOptions<'a>>
         ensures { MatchOption result (bad_given options strings.entry ≡ true) (λ o. (bad_given options strings.entry ≡ false) × (o.given ≡ options) × (o.strings ≡ strings.entry)) }
     {
-        let width = bases::base_bits(options.base)?;
+        let width = digits::base_bits(options.base)?;
         if bad_list(options, strings) {
             return None;
         }

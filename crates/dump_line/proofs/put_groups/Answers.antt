@@ -7,7 +7,7 @@ use Rattle.output.specs.Ascii.{ascii}
 use Rattle.output.specs.Pieces.{leading}
 use Rattle.output.proofs.Joined.{joined_none}
 use Rattle.output.proofs.Writes.{writes_nothing, writes_then, writes_length}
-use Rattle.rows.specs.Rows.{rows_text}
+use Rattle.digits.specs.Bytes.{rows_text}
 use Rattle.dump_line.proofs.Whole.{group_next, group_room, group_last}
 use Rattle.dump_line.proofs.put_groups.Goals as goal
 
