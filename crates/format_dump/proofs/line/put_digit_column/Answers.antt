@@ -1,4 +1,4 @@
--- `dump_line::put_digit_column` meets its contract: after j turns j bytes are written, each with what stands before it.
+-- `format_dump::line::put_digit_column` meets its contract: after j turns j bytes are written, each with what stands before it.
 -- Assumes nothing.
 use mathlib.Core.Path.{refl}
 use Prim.Native.Nat.{◌+◌, ◌*◌}
@@ -6,8 +6,10 @@ use native.Mathlib.Omega.{arith}
 use borrow.Author.Rules.{rules}
 use Rattle.output.proofs.Joined.{joined_none, joined_next, joined_room}
 use Rattle.output.proofs.Writes.{writes_nothing, writes_then}
-use Rattle.dump_line.proofs.Lengths.{gap, line_byte, byte_length}
-use Rattle.dump_line.proofs.put_digit_column.Goals as goal
+use Rattle.rows.specs.Rows.{digit_bits}
+use Rattle.format_dump.proofs.Bytes.{byte_length}
+use Rattle.format_dump.proofs.Lengths.{gap, line_byte}
+use Rattle.format_dump.proofs.line.put_digit_column.Goals as goal
 
 pub loop-j-init : goal.loop-j-init
 loop-j-init c = (rw joined_none (writes_nothing _ _), refl)
@@ -15,14 +17,14 @@ loop-j-init c = (rw joined_none (writes_nothing _ _), refl)
 pub put_between-next-requires : goal.put_between-next-requires
 put_between-next-requires c =
     let a = c.args.line in
-    let room = joined_room gap (line_byte a.image.bytes.now a.image.len a.width a.first) c.loop-j.j a.count (search rules) in
+    let room = joined_room gap (line_byte a.image.bytes.now a.image.len (digit_bits a.kind) a.first) c.loop-j.j a.count (search rules) in
     (omega arith, omega (arith, room, c.loop-j.invariant.0.next, c.requires))
 
 pub put_dump_byte-next-requires : goal.put_dump_byte-next-requires
 put_dump_byte-next-requires c =
     let a = c.args.line in
-    let room = joined_room gap (line_byte a.image.bytes.now a.image.len a.width a.first) c.loop-j.j a.count (search rules) in
-    omega (arith, room, c.loop-j.invariant.0.next, c.requires, c.put_between-next.ensures.next, byte_length a.image.bytes.now a.image.len a.width ((a.first + c.loop-j.j) * 8))
+    let room = joined_room gap (line_byte a.image.bytes.now a.image.len (digit_bits a.kind) a.first) c.loop-j.j a.count (search rules) in
+    omega (arith, room, c.loop-j.invariant.0.next, c.requires, c.put_between-next.ensures.next, byte_length a.kind a.image.bytes.now a.image.len ((a.first + c.loop-j.j) * 8))
 
 pub loop-j-preserved : goal.loop-j-preserved
 loop-j-preserved c =
