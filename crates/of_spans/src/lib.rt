@@ -1,6 +1,5 @@
-// The blocks of a slice of span records, and their Intel HEX export (document 01, "Forms to follow"):
-// each function copies the offsets and the sizes of the records, and calls the core on these. They
-// are two slices, and no list of spans, since the core takes them as the C interface lends them.
+// Exporters over a slice of span records (document 01, "Forms to follow"): each copies the numbers of the
+// records, and calls the core on these.
 #![tactic(auto)]
 
 ghost use Rattle.std.specs.Prelude.{◌≡◌, length};
@@ -8,13 +7,17 @@ ghost use Rattle.outcome.specs.Outcome.{Exports};
 ghost use Rattle.blocks.specs.Blocks.{blocks_of, blocks_found, Finds};
 ghost use Rattle.intelhex.specs.Hex.{hex_outcome};
 ghost use Rattle.intelhex.specs.TwoImages.{AgreeOn, SameAnswers, Sized};
+ghost use Rattle.annotated.specs.Annotated.{annotated_outcome};
 ghost use Rattle.spans.specs.Spans.{offsets_of, sizes_of};
+ghost use Rattle.of_spans.specs.Records.{record_spans};
 
 use bitvec::Image;
 use intelhex::Both;
+use listing::{FormatAnnotatedOptions, SpanColumns};
 use outcome::{Export, Refusal};
+use sources::Sources;
 use spans::Span;
-use spans::columns::Columns;
+use spans::columns::{Columns, ListingColumns};
 
 // The blocks of the lent records, their offsets and sizes at the fronts of two slices.
 pub fn get_blocks(
@@ -65,4 +68,27 @@ pub fn format_both(
         out,
         out2,
     )
+}
+
+// The listing of the lent records.
+pub fn format_annotated(
+    image: Image,
+    spans: &[Span],
+    sources: Sources,
+    options: FormatAnnotatedOptions,
+    out: &mut [u8],
+) -> Export
+    ensures { Exports (annotated_outcome image.entry.bytes.now image.entry.len options (record_spans spans.now) sources.entry.firmware.now sources.entry.protocol.now (length out.old)) result out.old out.new }
+{
+    let columns = Columns::copy(spans);
+    let others = ListingColumns::copy(spans);
+    let lent = SpanColumns {
+        offsets: columns.offsets(),
+        sizes: columns.sizes(),
+        addrs: others.addrs(),
+        files: others.files(),
+        starts: others.starts(),
+        ends: others.ends(),
+    };
+    annotated::format_annotated(image, lent, sources, options, out)
 }
