@@ -4,7 +4,7 @@ use Rattle.bitvec.specs.Size.{bad_size}
 use Rattle.output.specs.Pieces.{pieces}
 use Rattle.outcome.specs.Outcome.{Outcome, refused, outside, in_room}
 use Rattle.numbers.specs.Digits.{digit_count}
-use Rattle.dump_line.specs.Line.{dump_line}
+use Rattle.format_dump.specs.Line.{dump_line}
 use Rattle.format_dump.specs.declared.DumpOptions.{DumpOptions}
 
 -- The range of the options: digits of 1 or 4 bits, bytes of 8, and 1 to 64 bytes a line.

@@ -6,11 +6,15 @@ ghost use Rattle.std.specs.Prelude.{◌≡◌, true, false, ◌-◌, ◌*◌, �
 ghost use Rattle.output.specs.Writes.{Writes};
 ghost use Rattle.outcome.specs.Outcome.{Exports};
 ghost use Rattle.numbers.specs.Digits.{digit_count};
+ghost use Rattle.digits.specs.Bytes.{digit_bits};
 ghost use Rattle.format_dump.specs.Dump.{in_range, dump_lines, dump_text, dump_outcome, bindump, hexdump};
 
 use bitvec::{GoodImage, Image};
-use dump_line::DumpLine;
+use line::DumpLine;
 use outcome::{Export, Refusal};
+use digits::ByteDigits;
+
+mod line;
 
 // What a dump looks like: the bits of a digit, those of a byte, and the bytes of a line.
 #[derive(Clone, Copy)]
@@ -48,6 +52,7 @@ impl DumpOptions {
 
 // How many lines of `count` bytes an image has, as the definition counts them: `div_ceil` of the whole bytes,
 // at least 1, is another formula, and no plainer beside that one.
+#[tactic(auto, unfolding(crate::specs::Dump::dump_lines))]
 fn dump_lines(good: GoodImage, count: usize) -> usize
     requires { (0 < count) × (count ≤ 64) }
     ensures { result ≡ dump_lines good.entry.image.len count }
@@ -59,16 +64,15 @@ fn dump_lines(good: GoodImage, count: usize) -> usize
     (bits + 8 * (count - 1)) / (8 * count)
 }
 
-// A dump: an image, the bits of a digit, the bytes of a line, how many lines there are, and how many
+// A dump: an image, the kind of its digits, the bytes of a line, how many lines there are, and how many
 // digits an address has.
 #[derive(Clone, Copy)]
 struct Dump<'a> {
     good: GoodImage<'a>,
-    width: usize,
+    kind: ByteDigits,
     count: usize,
     lines: usize,
     address: usize,
-    ghost digits: { (0 < width) × (width ≤ 4) },
     ghost few: { (0 < count) × (count ≤ 64) },
     ghost counted: { lines ≡ dump_lines good.image.len count },
     ghost filled: { address ≡ digit_count 16 ((lines - 1) * count) },
@@ -76,10 +80,11 @@ struct Dump<'a> {
 
 impl<'a> Dump<'a> {
     // The dump of an image with some options, where they are in their range.
-    #[tactic(auto, using(crate::proofs::Range::in_range_lem, crate::proofs::Lengths::lines_few))]
+    #[tactic(auto, using(crate::proofs::Range::kind_none, crate::proofs::Range::bytes_few, crate::proofs::Lengths::lines_few))]
     fn new(good: GoodImage<'a>, options: DumpOptions) -> Option<Dump<'a>>
-        ensures { MatchOption result (in_range options ≡ false) (λ d. (in_range options ≡ true) × (d.good ≡ good.entry) × (d.width ≡ options.digit_bits) × (d.count ≡ options.bytes_per_line)) }
+        ensures { MatchOption result (in_range options ≡ false) (λ d. (in_range options ≡ true) × (d.good ≡ good.entry) × (digit_bits d.kind ≡ options.digit_bits) × (d.count ≡ options.bytes_per_line)) }
     {
+        let kind = ByteDigits::with_bits(options.digit_bits)?;
         if !DumpOptions::in_range(options) {
             return None;
         }
@@ -87,7 +92,7 @@ impl<'a> Dump<'a> {
         let lines = dump_lines(good, count);
         Some(Dump {
             good,
-            width: options.digit_bits,
+            kind,
             count,
             lines,
             address: numbers::digit_count(((lines - 1) * count) as u64, 16),
@@ -96,25 +101,25 @@ impl<'a> Dump<'a> {
 
     // The length of its text.
     fn length(self) -> usize
-        ensures { result ≡ length (dump_text self.entry.good.image.bytes.now self.entry.good.image.len self.entry.width self.entry.count) }
+        ensures { result ≡ length (dump_text self.entry.good.image.bytes.now self.entry.good.image.len (digit_bits self.entry.kind) self.entry.count) }
     {
-        self.lines * dump_line::line_length(self.width, self.count, self.address)
+        self.lines * line::line_length(self.kind, self.count, self.address)
     }
 
     // Stores its text. A line begins at the byte that its number says.
     fn write(self, out: &mut [u8]) -> usize
-        requires { length (dump_text self.good.image.bytes.now self.good.image.len self.width self.count) ≤ length out.old }
-        ensures { Writes (dump_text self.entry.good.image.bytes.now self.entry.good.image.len self.entry.width self.entry.count) out.old 0 out.new result }
+        requires { length (dump_text self.good.image.bytes.now self.good.image.len (digit_bits self.kind) self.count) ≤ length out.old }
+        ensures { Writes (dump_text self.entry.good.image.bytes.now self.entry.good.image.len (digit_bits self.entry.kind) self.entry.count) out.old 0 out.new result }
     {
         let mut next = 0;
         for k in 0..self.lines {
             let line = DumpLine {
                 image: self.good.image,
-                width: self.width,
+                kind: self.kind,
                 first: k * self.count,
                 count: self.count,
             };
-            next = dump_line::put_line(out, next, line, self.address);
+            next = line::put_line(out, next, line, self.address);
         }
         next
     }

@@ -8,16 +8,19 @@ use native.Mathlib.Omega.{arith}
 use lib.Dec.{ltb}
 use lib.ListN.{length, get_or}
 use borrow.Author.Tests.{lt-ltb, ne_eqb}
+use Rattle.std.proofs.lemmas.List.{length-map, get_or-map}
 use Rattle.output.proofs.Order.{by_order}
 use Rattle.bitvec.specs.Size.{max_bits}
 use Rattle.ordering.specs.Lists.{first}
 use Rattle.ordering.specs.Order.{absent}
-use Rattle.ordering.proofs.Lists.{map_length}
 use Rattle.span_list.specs.Range.{bad_span, fault_at}
 use Rattle.std.specs.Prelude.{Option, None, Some}
 use Rattle.spans.specs.declared.Span.{Span}
 use Rattle.spans.specs.Spans.{offset_number, offsets_of, sizes_of, ends_past}
-use Rattle.spans.proofs.Copied.{no_span, number_at}
+
+-- The record that stands past the end of a list.
+abbrev pub no_span : Span
+no_span = record { offset = None; size = 0; addr = 0; file_handle = 0; location = None }
 
 -- Only an absent offset has the number of one.
 pub absent_only : (o : Option ℕ) → offset_number o ≡ absent → o ≡ None
@@ -42,6 +45,6 @@ first_same f g (suc n) h = rw (first_same f g n (λ k l. h k (omega arith)), h n
 pub fault_is : (xs : List Span) → fault_at (offsets_of xs) (sizes_of xs) ≡ first (λ p. ends_past (get_or xs p no_span).offset (get_or xs p no_span).size) (length xs)
 unfolding fault_at
 fault_is xs =
-    ap (first (λ p. bad_span (get_or (offsets_of xs) p 0) (get_or (sizes_of xs) p 0))) (map_length (λ s. offset_number s.offset) xs)
+    ap (first (λ p. bad_span (get_or (offsets_of xs) p 0) (get_or (sizes_of xs) p 0))) (length-map xs (λ s. offset_number s.offset))
     ∙ first_same (λ p. bad_span (get_or (offsets_of xs) p 0) (get_or (sizes_of xs) p 0)) (λ p. ends_past (get_or xs p no_span).offset (get_or xs p no_span).size) (length xs)
-    (λ p l. rw (← number_at (λ s. offset_number s.offset) xs p l, ← number_at (λ s. s.size) xs p l) (bad_is (get_or xs p no_span).offset (get_or xs p no_span).size))
+    (λ p l. rw (get_or-map (λ s. offset_number s.offset) xs p no_span 0 l, get_or-map (λ s. s.size) xs p no_span 0 l) (bad_is (get_or xs p no_span).offset (get_or xs p no_span).size))

@@ -2,8 +2,8 @@
 // may have, by which the core tells that a list is too long. Fixed memory: an array for each column, and
 // a count in each of two structs. The columns are their fields, since a generic struct may hold no array
 // of its type parameter.
-ghost use Rattle.std.specs.Prelude.{◌≡◌, ◌≤◌, length, take, map};
-ghost use Rattle.std.proofs.lemmas.List.Edits.{sets};
+ghost use Rattle.std.specs.Prelude.{◌≡◌, ◌≤◌, min, length, take, map};
+ghost use lib.Seq.{paste};
 
 use crate::Span;
 
@@ -13,7 +13,7 @@ const ROOM: usize = 4097;
 // Copies a number of each record to the front of a column, as far as it has room.
 fn copy_column<T: Copy, F: Fn(Span) -> T>(spans: &[Span], column: &mut [T], number: F)
     requires { F.IsAlwaysCallable number }
-    ensures { (w : Span → T) → ((s : Span) (r : T) → F.post number s r → r ≡ w s) → column.new ≡ sets column.old 0 (take (length column.old) (map w spans.now)) }
+    ensures { (w : Span → T) → ((s : Span) (r : T) → F.post number s r → r ≡ w s) → column.new ≡ paste column.old 0 (map w spans.now) (min (length spans.now) (length column.old)) }
 {
     let count = spans.len().min(column.len());
     // By places: what is written through `iter_mut` of the column in step is not known to the proof.
@@ -32,7 +32,7 @@ pub struct Columns {
 }
 
 impl Columns {
-    ghost use Rattle.spans.specs.Copies.{ColumnsOf};
+    ghost use Rattle.spans.specs.InnerCopies.{ColumnsOf};
 
     // Copies those of records.
     pub fn copy(spans: &[Span]) -> Columns
@@ -74,7 +74,7 @@ pub struct ListingColumns {
 }
 
 impl ListingColumns {
-    ghost use Rattle.spans.specs.Copies.{ListingColumnsOf};
+    ghost use Rattle.spans.specs.InnerCopies.{ListingColumnsOf};
 
     // Copies the logical addresses, files, starts and ends of records.
     pub fn copy(spans: &[Span]) -> ListingColumns

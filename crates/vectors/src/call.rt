@@ -52,7 +52,7 @@ fn intelhex(row: &[u8], over_records: bool, image: Image, out: &mut [u8]) -> Exp
     let offsets = span_column(row, 0);
     if over_records {
         let records = records(row);
-        return hex_of_spans::format_intelhex(image, &records[..offsets.count], unit, out);
+        return of_spans::format_intelhex(image, &records[..offsets.count], unit, out);
     }
     let sizes = span_column(row, 1);
     let offset_words = words(&offsets);
@@ -111,7 +111,7 @@ fn annotated(row: &[u8], over_records: bool, image: Image, out: &mut [u8]) -> Ex
     }
     let count = span_column(row, 0).count;
     let records = records(row);
-    listing_of_spans::format_annotated(image, &records[..count], sources, options, out)
+    of_spans::format_annotated(image, &records[..count], sources, options, out)
 }
 
 // The export that a row names, its spans lent as numbers or as records.

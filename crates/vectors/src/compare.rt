@@ -109,7 +109,7 @@ fn blocks_agree(row: &[u8]) -> bool {
     let records = records(row);
     let mut offsets = [OLD_NUMBER; BLOCKS];
     let mut sizes = [OLD_NUMBER; BLOCKS];
-    let answer = hex_of_spans::get_blocks(
+    let answer = of_spans::get_blocks(
         &records[..span_column(row, 0).count],
         &mut offsets[..room],
         &mut sizes[..room],

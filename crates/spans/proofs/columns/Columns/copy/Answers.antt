@@ -1,12 +1,12 @@
 -- `spans::columns::Columns::copy` meets its contract: each column has its number of each record.
 -- Assumes nothing.
 use Rattle.std.proofs.Common.{rules}
-use Rattle.spans.specs.Copies.{zeros, column}
+use Rattle.spans.specs.InnerCopies.{column}
 use Rattle.spans.specs.Spans.{offset_number}
 use Rattle.spans.proofs.columns.Columns.copy.Goals as goal
 
 pub returns : goal.returns
-unfolding zeros column
+unfolding column
 returns c =
     record {
       offsets = c.copy_column.ensures (λ s. offset_number s.offset) (λ s r p. search rules);

@@ -1,9 +1,0 @@
-use mathlib.Core.Path.{◌≡◌}
-use lib.ListN.{length}
-use Rattle.output.specs.Pieces.{joined}
-use Rattle.output.specs.Writes.{Writes}
-use Rattle.dump_line.proofs.Lengths.{gap, line_byte}
-use Rattle.dump_line.proofs.put_digit_column.Given as goal
-
-abbrev pub invariant-loop-j : goal.invariant-loop-j
-invariant-loop-j l = Writes (joined gap (line_byte l.line.image.bytes.now l.line.image.len l.line.width l.line.first) l.j) l.initial.out l.at l.out l.next × (length l.out ≡ length l.initial.out)

@@ -1,0 +1,145 @@
+// One line of the dump of an image (document 01, module 6): its address, its bytes in digits and its
+// bytes as characters.
+
+ghost use Rattle.std.specs.Prelude.{◌≡◌, [], ◌∷◌, List, ℕ, ◌+◌, ◌*◌, ◌≤◌, ◌<◌, ◌^◌, length};
+ghost use Rattle.output.specs.Writes.{Writes};
+ghost use Rattle.numbers.specs.Digits.{digit_count};
+ghost use Rattle.digits.specs.Bytes.{digits_per_byte, digit_bits};
+ghost use Rattle.format_dump.specs.Line.{dump_digit, printed, dump_char, dump_byte, digit_column, char_column, dump_line};
+
+use bitvec::{BitOffset, Image};
+use numbers::{DigitWidth, Letters, Radix};
+use digits::ByteDigits;
+
+// A line: `count` bytes of an image from byte `first` on, in digits of one kind.
+#[derive(Clone, Copy)]
+pub struct DumpLine<'a> {
+    pub image: Image<'a>,
+    pub kind: ByteDigits,
+    pub first: usize,
+    pub count: usize,
+    pub ghost low: { first < 2 ^ 32 },
+    pub ghost few: { count ≤ 64 },
+}
+
+// Stores a digit, a point where its first bit is past the end.
+#[tactic(auto, unfolding(crate::specs::Line::dump_digit))]
+fn put_dump_digit(
+    out: &mut [u8],
+    at: usize,
+    image: Image,
+    width: DigitWidth,
+    from: BitOffset,
+) -> usize
+    requires { (from.0 + width.bits < 2 ^ 64) × (at < length out.old) }
+    ensures { Writes (dump_digit image.entry.bytes.now image.entry.len width.bits from.0 ∷ []) out.old at out.new result }
+{
+    if image.len <= from.0 {
+        return output::put(out, at, b'.');
+    }
+    digits::put_digit(out, at, image, width, from)
+}
+
+// The character that a byte is printed as.
+#[tactic(auto, unfolding(crate::specs::Line::printed))]
+fn printed(byte: u8) -> u8
+    ensures { result ≡ printed byte }
+{
+    if byte == b' ' || byte == b'\t' || byte == b'\r' || byte == b'\n' {
+        return b' ';
+    }
+    if 127 < byte || byte < b' ' || byte == b'|' {
+        return b'.';
+    }
+    byte
+}
+
+// The character of a byte of the image, a point where its first bit is past the end.
+#[tactic(auto, unfolding(crate::specs::Line::dump_char))]
+fn dump_char(image: Image, from: BitOffset) -> u8
+    requires { from.0 + 8 < 2 ^ 64 }
+    ensures { result ≡ dump_char image.entry.bytes.now image.entry.len from.0 }
+{
+    if image.len <= from.0 {
+        return b'.';
+    }
+    printed(image.read_byte(from))
+}
+
+// Stores the byte of a line's image from a bit on, in digits, and a space. The digits of a byte that is
+// whole are stored at once: one by one a hexdump takes several times as long.
+fn put_dump_byte(out: &mut [u8], at: usize, line: DumpLine, from: BitOffset) -> usize
+    requires { (from.0 + 8 < 2 ^ 64) × (at + (digits_per_byte line.kind + 1) ≤ length out.old) }
+    ensures { Writes (dump_byte line.entry.image.bytes.now line.entry.image.len (digit_bits line.entry.kind) from.0) out.old at out.new result }
+{
+    if from.0 + 8 <= line.image.len {
+        let next = digits::put_byte_digits(out, at, line.kind, line.image.read_byte(from));
+        return output::put(out, next, b' ');
+    }
+    let width = line.kind.width();
+    let mut next = at;
+    for j in 0..line.kind.per_byte() {
+        next = put_dump_digit(out, next, line.image, width, from.plus(j * width.bits));
+    }
+    output::put(out, next, b' ')
+}
+
+// Stores the bytes of a line in digits, each behind what stands between it and the one before it.
+fn put_digit_column(out: &mut [u8], at: usize, line: DumpLine) -> usize
+    requires { at + length (digit_column line.image.bytes.now line.image.len (digit_bits line.kind) line.first line.count) ≤ length out.old }
+    ensures { Writes (digit_column line.entry.image.bytes.now line.entry.image.len (digit_bits line.entry.kind) line.entry.first line.entry.count) out.old at out.new result }
+{
+    let mut next = at;
+    for j in 0..line.count {
+        next = output::put_between(out, next, 4, j, b' ');
+        next = put_dump_byte(out, next, line, BitOffset((line.first + j) * 8));
+    }
+    next
+}
+
+// Stores the bytes of a line as characters.
+fn put_char_column(out: &mut [u8], at: usize, line: DumpLine) -> usize
+    requires { at + line.count ≤ length out.old }
+    ensures { Writes (char_column line.entry.image.bytes.now line.entry.image.len line.entry.first line.entry.count) out.old at out.new result }
+{
+    let mut next = at;
+    for j in 0..line.count {
+        let c = dump_char(line.image, BitOffset((line.first + j) * 8));
+        next = output::put(out, next, c);
+    }
+    next
+}
+
+// The length of a line of `count` bytes whose address is filled to `address` digits.
+#[tactic(auto, using(crate::proofs::Lengths::line_length))]
+pub fn line_length(kind: ByteDigits, count: usize, address: usize) -> usize
+    requires { (count ≤ 64) × (1 ≤ address) × (address < 2 ^ 16) }
+    ensures { (bytes : List ℕ) (len first : ℕ) → digit_count 16 first ≤ address → length (dump_line bytes len (digit_bits kind) count address first) ≡ result }
+{
+    let gaps = output::between_length(count, 4, 1, 0);
+    address + gaps + count * (kind.per_byte() + 2) + 9
+}
+
+// Stores a line, its address filled to `address` digits.
+#[tactic(auto, using(crate::proofs::Lengths::line_written))]
+pub fn put_line(out: &mut [u8], at: usize, line: DumpLine, address: usize) -> usize
+    requires fits { digit_count 16 line.first ≤ address }
+    requires room { at + length (dump_line line.image.bytes.now line.image.len (digit_bits line.kind) line.count address line.first) ≤ length out.old }
+    ensures { Writes (dump_line line.entry.image.bytes.now line.entry.image.len (digit_bits line.entry.kind) line.entry.count address line.entry.first) out.old at out.new result }
+{
+    let mut next = output::put(out, at, b' ');
+    next = numbers::put_column(
+        out,
+        next,
+        Letters::Lower,
+        line.first as u64,
+        Radix::HEX,
+        b'0',
+        address,
+    );
+    next = output::put_all(out, next, b" | ");
+    next = put_digit_column(out, next, line);
+    next = output::put_all(out, next, b"| ");
+    next = put_char_column(out, next, line);
+    output::put_all(out, next, b" |\n")
+}
