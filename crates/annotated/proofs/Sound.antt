@@ -13,7 +13,7 @@ use borrow.Author.Tests.{eq-eqb, ne_eqb}
 use Rattle.std.specs.Option.{MatchOption, is_some}
 use Rattle.std.specs.Prelude.{Option, None, Some}
 use Rattle.ordering.specs.Order.{absent, offset_from}
-use Rattle.ordering.proofs.Lists.{first_none}
+use Rattle.output.proofs.Lists.{first_none}
 use Rattle.sources.specs.Sources.{source, excerpt_of, no_location}
 use Rattle.listing.specs.declared.FormatAnnotatedOptions.{FormatAnnotatedOptions}
 use Rattle.listing.specs.declared.Widths.{Widths}

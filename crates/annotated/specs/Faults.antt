@@ -1,6 +1,6 @@
 -- The spans that a listing cannot show (document 01, refusal 7).
 use Rattle.std.specs.Prelude.{Bool, not, ◌||◌, ◌&&◌, List, ℕ, eqb, ltb, length, get_or}
-use Rattle.ordering.specs.Lists.{first}
+use Rattle.output.specs.Lists.{first}
 use Rattle.ordering.specs.Order.{absent}
 use Rattle.sources.specs.Sources.{source}
 pub use Rattle.sources.specs.Sources.{no_location}

@@ -91,30 +91,3 @@ bits_across bytes len k s w inside there few most h l =
     let all : s + w + (16 - (s + w)) ≡ 16 = omega arith in
     let cut = bits_cut bytes len (8 * length bytes) (k * 8) s w (16 - (s + w)) inside (omega arith) in
     rw (shifted_base w most) (sym (rw (all, pair_whole bytes (8 * length bytes) k (omega arith) h l) at cut))
-
--- Twice as many bytes: those of the first half, and then those of the second, w bits each.
-pub words_join : (bytes : List ℕ) (len at half w : ℕ) → half * 8 ≡ w
-    → bits_at bytes len (at * 8) w * 2 ^ w + bits_at bytes len ((at + half) * 8) w ≡ bits_at bytes len (at * 8) (w + w)
-words_join bytes len at half w e =
-    let place : (at + half) * 8 ≡ at * 8 + w = omega arith in
-    rw place (sym (bits_split bytes len (at * 8) w w))
-
--- Two bytes of the image, and then four, and then eight.
-pair_bytes : (bytes : List ℕ) (len k : ℕ) → k * 8 + 16 ≤ len → ((j : ℕ) → get_or bytes j 0 < 256) → bits_at bytes len (k * 8) 16 ≡ get_or bytes k 0 * 256 + get_or bytes (k + 1) 0
-pair_bytes bytes len k h small = pair_whole bytes len k h (small k) (small (k + 1))
-
-four_bytes : (bytes : List ℕ) (len k : ℕ) → k * 8 + 32 ≤ len → ((j : ℕ) → get_or bytes j 0 < 256)
-    → bits_at bytes len (k * 8) 32 ≡ (get_or bytes k 0 * 256 + get_or bytes (k + 1) 0) * 65536 + (get_or bytes (k + 2) 0 * 256 + get_or bytes (k + 3) 0)
-four_bytes bytes len k h small =
-    let last : k + 2 + 1 ≡ k + 3 = omega arith in
-    sym (words_join bytes len k 2 16 refl) ∙ rw (pair_bytes bytes len k (omega arith) small, pair_bytes bytes len (k + 2) (omega arith) small, last)
-
-pub eight_bytes : (bytes : List ℕ) (len k : ℕ) → k * 8 + 64 ≤ len → ((j : ℕ) → get_or bytes j 0 < 256)
-    → bits_at bytes len (k * 8) 64
-    ≡ ((get_or bytes k 0 * 256 + get_or bytes (k + 1) 0) * 65536 + (get_or bytes (k + 2) 0 * 256 + get_or bytes (k + 3) 0)) * 4294967296
-    + ((get_or bytes (k + 4) 0 * 256 + get_or bytes (k + 5) 0) * 65536 + (get_or bytes (k + 6) 0 * 256 + get_or bytes (k + 7) 0))
-eight_bytes bytes len k h small =
-    let second : k + 4 + 1 ≡ k + 5 = omega arith in
-    let third : k + 4 + 2 ≡ k + 6 = omega arith in
-    let last : k + 4 + 3 ≡ k + 7 = omega arith in
-    sym (words_join bytes len k 4 32 refl) ∙ rw (four_bytes bytes len k (omega arith) small, four_bytes bytes len (k + 4) (omega arith) small, second, third, last)

@@ -3,8 +3,8 @@
 // bytes. The Rust's BitVec holds its length; here both are lent, as one value.
 #![tactic(auto)]
 
-ghost use Rattle.std.specs.Prelude.{◌≡◌, true, false, MatchOption, ◌+◌, ◌*◌, ◌/◌, ◌%◌, ◌≤◌, ◌<◌, ◌^◌, min, length, take, drop, IfSome};
-ghost use Rattle.bitvec.specs.Bits.{bit_at, bits_at, byte_at};
+ghost use Rattle.std.specs.Prelude.{◌≡◌, true, false, MatchOption, ◌+◌, ◌*◌, ◌/◌, ◌%◌, ◌≤◌, ◌<◌, ◌^◌, min, length, take, drop};
+ghost use Rattle.bitvec.specs.Bits.{bit_at, bits_at};
 ghost use Rattle.bitvec.specs.Size.{bad_size, ceil_div};
 
 // The largest image, in bits.
@@ -101,13 +101,6 @@ impl<'a> Image<'a> {
         Some(GoodImage { image: self })
     }
 
-    // How many of its bytes are whole: within the bit length, and lent.
-    pub fn whole_bytes(self) -> usize
-        ensures { result ≡ min (self.entry.len / 8) (length self.entry.bytes.now) }
-    {
-        self.bytes.len().min(self.len / 8)
-    }
-
     // Its `count` bytes from byte `first` on, where all of them are whole.
     #[inline(always)]
     pub fn whole(self, first: usize, count: usize) -> Option<WholeBytes<'a>>
@@ -122,21 +115,6 @@ impl<'a> Image<'a> {
             first,
             count,
         })
-    }
-
-    // The byte that holds bit `from`, where `count` bytes from that bit on and the byte behind them are in
-    // the image. That it is found then is left free: a wrong None costs time alone, since each caller has
-    // another way.
-    #[inline(always)]
-    pub fn first_across(self, from: BitOffset, count: usize) -> Option<usize>
-        requires { from.0 + 8 * count < 2 ^ 64 }
-        ensures { IfSome result (λ first. (first ≡ from.0 / 8) × ((first + count) * 8 + from.0 % 8 ≤ self.entry.len) × (first + count < length self.entry.bytes.now)) }
-    {
-        let first = from.byte();
-        if self.len < from.0 + 8 * count || self.bytes.len() <= first + count {
-            return None;
-        }
-        Some(first)
     }
 
     // The bit at `offset`, 0 or 1.
@@ -227,27 +205,6 @@ impl<'a> WholeBytes<'a> {
     {
         &self.image.bytes[self.first..self.first + self.count]
     }
-
-    // `count` of them, from the one at `from` on.
-    pub fn part(self, from: usize, count: usize) -> WholeBytes<'a>
-        requires { from + count ≤ self.count }
-        ensures { (result.image ≡ self.entry.image) × (result.first ≡ self.entry.first + from) × (result.count ≡ count) }
-    {
-        WholeBytes {
-            image: self.image,
-            first: self.first + from,
-            count,
-        }
-    }
-
-    // The byte at a place among them.
-    #[tactic(auto, using(crate::proofs::Words::byte_whole))]
-    pub fn byte(self, place: usize) -> u8
-        requires { place < self.count }
-        ensures { result ≡ byte_at self.entry.image.bytes.now self.entry.image.len (self.entry.first + place) }
-    {
-        self.image.bytes[self.first + place]
-    }
 }
 
 // How many parts of `width` bits an image of `len` bits has, the last one perhaps shorter: the
@@ -258,13 +215,4 @@ pub fn parts(len: usize, width: usize) -> usize
     ensures { result ≡ ceil_div len width }
 {
     len.div_ceil(width)
-}
-
-// Eight bytes as one number, the first byte highest.
-pub fn read_word(bytes: &[u8], at: usize) -> u64
-    requires { at + 8 ≤ length bytes.now }
-    ensures { result ≡ bits_at bytes.now (8 * length bytes.now) (at * 8) 64 }
-{
-    let word = <[u8; 8]>::try_from(&bytes[at..at + 8]).unwrap();
-    u64::from_be_bytes(word)
 }

@@ -12,7 +12,7 @@ use Rattle.bitvec.specs.Size.{max_bits}
 use Rattle.output.proofs.Writes.{sets_append}
 use Rattle.ordering.specs.Order.{absent, in_order}
 use Rattle.ordering.proofs.Keys.{in_order_below}
-use Rattle.ordering.proofs.Lists.{each_get, map_append, map_length}
+use Rattle.output.proofs.Lists.{each_get, map_append, map_length}
 use Rattle.blocks.specs.Blocks.{Block, present, closed, running, blocks_of}
 use Rattle.blocks.specs.InnerStores.{Stores}
 use Rattle.blocks.proofs.Running.{present_absent, present_next, present_none, running_joins, running_closes, running_last, running_first, blocks_few}

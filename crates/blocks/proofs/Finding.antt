@@ -12,7 +12,7 @@ use Rattle.std.specs.Prelude.{Ok, Err}
 use Rattle.outcome.specs.declared.Refusal.{Refusal}
 use Rattle.outcome.specs.declared.Refusal.TheVariants.{ImageSize, OptionRange, SpanRange, EmptyImage, AddressRange, SourceText, SpanFault, NoRoom}
 use Rattle.outcome.specs.Outcome.{Answer, refusal_of, answer_of, Finding, found, unfound, Finds}
-use Rattle.ordering.proofs.Lists.{map_length}
+use Rattle.output.proofs.Lists.{map_length}
 use Rattle.span_list.specs.Range.{long_list, fault_at, spans_checked, IsCause}
 use Rattle.blocks.specs.Blocks.{Block, blocks_of, blocks_found}
 use Rattle.blocks.specs.InnerStores.{Stores}

@@ -9,8 +9,8 @@ use Rattle.output.specs.Ascii.{ascii}
 use Rattle.output.proofs.Order.{by_order}
 use Rattle.numbers.specs.declared.Letters.TheVariants.{Upper}
 use Rattle.numbers.specs.Digits.{digit_char, byte_text}
-use Rattle.ordering.specs.Lists.{Each}
-use Rattle.ordering.proofs.Lists.{each_append}
+use Rattle.output.specs.Lists.{Each}
+use Rattle.output.proofs.Lists.{each_append}
 use Rattle.hex_records.specs.Plan.{Chunk}
 use Rattle.hex_records.specs.Text.{bytes_from, total, checksum, record_bytes, hex_bytes, record_text, hex_text}
 use Rattle.hex_records.specs.Intel.{Record, digit_value, pairs, type_good, fields, one_record, before_first, lines, records_on, ended, records}

@@ -9,12 +9,12 @@ use borrow.Author.Tests.{le-ltb, ltb-false}
 use lib.ListN.{get_or-map}
 use Rattle.bitvec.specs.Size.{ceil_div}
 use Rattle.output.specs.Pieces.{pieces}
-use Rattle.ordering.specs.Lists.{table, Each}
-use Rattle.ordering.proofs.Lists.{each_parts, each_append, each_table, table_each, table_equal, table_list, map_length}
+use Rattle.output.specs.Lists.{table, Each}
+use Rattle.output.proofs.Lists.{each_parts, each_append, each_table, table_each, table_equal, table_list, map_length}
 use Rattle.blocks.specs.Blocks.{Block}
 use Rattle.hex_records.specs.Plan.{Chunk, block_bytes, chunk_at, block_plan, hex_plan, too_high, blocks_at}
 use Rattle.hex_records.specs.Text.{record_text}
-use Rattle.ordering.proofs.Flat.{flat_table, flat_flat}
+use Rattle.output.proofs.Flat.{flat_table, flat_flat}
 
 -- What holds of each record of a plan holds of each record of each block.
 pub each_flat : {A B : Type 0} (P : B → Type 0) (g : A → List B) (l : List A) → Each P (flat_map g l) → Each (λ x. Each P (g x)) l

@@ -7,11 +7,11 @@ use Rattle.bitvec.proofs.Bits.{bits_small}
 use Rattle.output.specs.Ascii.{ascii}
 use Rattle.numbers.specs.declared.Letters.TheVariants.{Upper}
 use Rattle.numbers.specs.Digits.{byte_text}
-use Rattle.ordering.specs.Lists.{table, Each}
-use Rattle.ordering.proofs.Lists.{table_next, table_length, each_table}
+use Rattle.output.specs.Lists.{table, Each}
+use Rattle.output.proofs.Lists.{table_next, table_length, each_table}
 use Rattle.hex_records.specs.Plan.{Chunk}
 use Rattle.hex_records.specs.Text.{bytes_from, total, checksum, record_bytes, hex_bytes, record_text}
-use Rattle.ordering.proofs.Flat.{flat_append, flat_one, flat_none}
+use Rattle.output.proofs.Flat.{flat_append, flat_one, flat_none}
 use Rattle.hex_records.proofs.Sums.{total_append}
 
 pub bytes_next : (bytes : List ℕ) (len from k : ℕ) → bytes_from bytes len from (k + 1) ≡ bytes_from bytes len from k ++ (bits_at bytes len (from + 8 * k) 8 ∷ [])

@@ -2,7 +2,7 @@
 use Rattle.std.specs.Prelude.{ℕ, ◌+◌, ◌-◌, ◌*◌, ◌/◌, min, Bool, false, ◌||◌, List, [], ◌∷◌, length, nat_lt, slice_index}
 use mathlib.Core.List.{flat_map}
 use Rattle.bitvec.specs.Size.{ceil_div}
-use Rattle.ordering.specs.Lists.{table}
+use Rattle.output.specs.Lists.{table}
 use Rattle.blocks.specs.Blocks.{Block}
 
 -- A data record to be written: its address, the offset of its first bit, and how many bytes it has.

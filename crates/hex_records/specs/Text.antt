@@ -5,7 +5,7 @@ use Rattle.bitvec.specs.Bits.{bits_at}
 use Rattle.output.specs.Ascii.{ascii}
 use Rattle.numbers.specs.declared.Letters.TheVariants.{Upper}
 use Rattle.numbers.specs.Digits.{byte_text}
-use Rattle.ordering.specs.Lists.{table}
+use Rattle.output.specs.Lists.{table}
 use Rattle.hex_records.specs.Plan.{Chunk}
 
 -- The bytes of an image from a bit offset on.

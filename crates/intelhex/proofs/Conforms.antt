@@ -12,7 +12,7 @@ use Rattle.bitvec.specs.Size.{bad_size}
 use Rattle.output.proofs.Order.{by_order}
 use Rattle.outcome.specs.Outcome.{Outcome, text, refused, answer, outside, in_room}
 use Rattle.outcome.proofs.Outcome.{room_enough, room_short}
-use Rattle.ordering.proofs.Lists.{each_both}
+use Rattle.output.proofs.Lists.{each_both}
 use Rattle.span_list.specs.Range.{long_list, fault_at}
 use Rattle.blocks.specs.Blocks.{blocks_of}
 use Rattle.hex_records.specs.Plan.{Chunk, hex_plan, too_high}

@@ -10,8 +10,8 @@ use Rattle.bitvec.specs.Bits.{bit_at, bits_at}
 use Rattle.bitvec.specs.Size.{ceil_div}
 use Rattle.bitvec.proofs.Bits.{SameBits, bits_same}
 use Rattle.bitvec.proofs.Size.{ceil_covers}
-use Rattle.ordering.specs.Lists.{Each}
-use Rattle.ordering.proofs.Lists.{table_get, table_equal, table_each, each_table, each_map}
+use Rattle.output.specs.Lists.{Each}
+use Rattle.output.proofs.Lists.{table_get, table_equal, table_each, each_table, each_map}
 use Rattle.blocks.specs.Blocks.{Block}
 use Rattle.hex_records.specs.Plan.{block_bytes, chunk_at, block_plan, hex_plan}
 use Rattle.hex_records.specs.Text.{bytes_from}

@@ -10,8 +10,8 @@ use lib.Dec.{ltb}
 use lib.ListN.{length}
 use borrow.Author.Tests.{lt-ltb}
 use Rattle.bitvec.specs.Size.{ceil_div}
-use Rattle.ordering.specs.Lists.{table}
-use Rattle.ordering.proofs.Lists.{table_next, each_table}
+use Rattle.output.specs.Lists.{table}
+use Rattle.output.proofs.Lists.{table_next, each_table}
 use Rattle.blocks.specs.Blocks.{Block}
 use Rattle.hex_records.specs.Plan.{Chunk, block_bytes, chunk_at, block_plan, hex_plan, too_high, blocks_at}
 use Rattle.hex_records.proofs.Plan.{Low, each_low, paired, blocks_zip}

@@ -15,7 +15,7 @@ use Rattle.hex_records.specs.Plan.{block_bytes, chunk_at, block_plan, hex_plan, 
 use Rattle.hex_records.specs.Text.{record_text}
 use Rattle.hex_records.proofs.Text.{record_length}
 use Rattle.hex_records.proofs.Plan.{block_pieces, paired, blocks_zip}
-use Rattle.ordering.proofs.Flat.{flat_append}
+use Rattle.output.proofs.Flat.{flat_append}
 
 one_length : (bytes : List ℕ) (len unit : ℕ) (b : Block) (n : ℕ) → length (record_text bytes len (chunk_at unit b n)) ≡ 12 + 2 * min 32 (block_bytes b - 32 * n)
 unfolding chunk_at

@@ -14,8 +14,8 @@ use Rattle.std.specs.Prelude.{Result}
 use Rattle.outcome.specs.declared.Refusal.{Refusal}
 use Rattle.outcome.specs.Outcome.{Outcome, Answer, text, refused, answer, answer_of, left, outside, in_room, Exports}
 use Rattle.outcome.proofs.Outcome.{room_enough, room_short}
-use Rattle.ordering.specs.Lists.{Each}
-use Rattle.ordering.proofs.Lists.{each_both, each_map, sets_front}
+use Rattle.output.specs.Lists.{Each}
+use Rattle.output.proofs.Lists.{each_both, each_map, sets_front}
 use Rattle.span_list.specs.Range.{long_list, fault_at}
 use Rattle.blocks.specs.Blocks.{blocks_of}
 use Rattle.hex_records.specs.Plan.{Chunk, hex_plan, too_high}

@@ -5,7 +5,7 @@ use Rattle.bitvec.specs.Size.{bad_size, ceil_div}
 use Rattle.bitvec.specs.declared.Image.{Image}
 use Rattle.outcome.specs.declared.Refusal.{Refusal}
 use Rattle.outcome.specs.Outcome.{Outcome, Answer, text, refused, answer_of}
-use Rattle.ordering.specs.Lists.{Each}
+use Rattle.output.specs.Lists.{Each}
 use Rattle.blocks.specs.Blocks.{Block}
 
 -- Two images agree on every bit of every block. A block stands for the bits from its offset on, 8 times ceil(size / 8) of them; a bit at

@@ -10,7 +10,7 @@ use Rattle.std.specs.Prelude.{Result}
 use Rattle.outcome.specs.declared.Refusal.{Refusal}
 use Rattle.outcome.specs.Outcome.{Exports}
 use Rattle.bitvec.specs.Size.{ceil_div}
-use Rattle.ordering.proofs.Lists.{table_equal}
+use Rattle.output.proofs.Lists.{table_equal}
 use Rattle.intelhex.specs.Hex.{hex_outcome}
 use Rattle.job.specs.Job.{word, bit_length, image_at, span_count, table_at, address_unit, image_of, rows_of, column, bad_job, job_outcome}
 

@@ -5,7 +5,7 @@ use Rattle.output.specs.Ascii.{ascii}
 use Rattle.outcome.specs.Outcome.{Outcome, text, refused}
 use Rattle.numbers.specs.declared.Letters.TheVariants.{Lower}
 use Rattle.numbers.specs.Digits.{number_text}
-use Rattle.ordering.specs.Lists.{table}
+use Rattle.output.specs.Lists.{table}
 use Rattle.intelhex.specs.Hex.{hex_outcome}
 
 -- The little-endian 32-bit number at a place.

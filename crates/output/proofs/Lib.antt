@@ -3,3 +3,5 @@ pub mod Exhaust
 pub mod Writes
 pub mod Pieces
 pub mod Joined
+pub mod Lists
+pub mod Flat

@@ -8,8 +8,8 @@ use borrow.Author.Tests.{le-ltb, ltb-true, ltb-false}
 use Rattle.std.specs.Bool.{MatchBool}
 use Rattle.std.specs.Str.{IsAscii, IsNotAscii}
 use Rattle.std.proofs.lemmas.List.{get_or_past}
-use Rattle.ordering.specs.Lists.{first}
-use Rattle.ordering.proofs.Lists.{first_all, first_most, first_none}
+use Rattle.output.specs.Lists.{first}
+use Rattle.output.proofs.Lists.{first_all, first_most, first_none}
 use Rattle.sources.specs.Sources.{not_ascii, bad_text}
 
 -- A text that is not bad has at most 1,048,576 bytes.

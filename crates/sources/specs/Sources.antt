@@ -1,6 +1,6 @@
 -- The two source texts of a listing (document 01, "What an exporter is lent" and module 9; the Rust's `get_excerpt`), and refusal 6.
 use Rattle.std.specs.Prelude.{Bool, cond, ◌||◌, List, ℕ, ◌-◌, eqb, ltb, length, get_or, take, drop}
-use Rattle.ordering.specs.Lists.{first}
+use Rattle.output.specs.Lists.{first}
 
 -- The start that says that a span has no location.
 abbrev pub no_location : ℕ

@@ -17,7 +17,7 @@ use Rattle.outcome.specs.declared.Refusal.{Refusal}
 use Rattle.outcome.specs.declared.Refusal.TheVariants.{SpanRange}
 use Rattle.outcome.specs.Outcome.{refusal_of}
 use Rattle.ordering.specs.Order.{absent}
-use Rattle.ordering.proofs.Lists.{first_all, first_at, first_none}
+use Rattle.output.proofs.Lists.{first_all, first_at, first_none}
 use Rattle.span_list.specs.Range.{long_list, bad_span, fault_at, spans_checked, IsCause}
 
 -- A good span that has an offset ends within the largest image.

@@ -3,7 +3,7 @@ use Rattle.std.specs.Prelude.{◌≡◌, Bool, cond, not, ◌||◌, ◌&&◌, Li
 use Rattle.outcome.specs.declared.Refusal.{Refusal}
 use Rattle.outcome.specs.declared.Refusal.TheVariants.{SpanRange}
 use Rattle.bitvec.specs.Size.{max_bits}
-use Rattle.ordering.specs.Lists.{first}
+use Rattle.output.specs.Lists.{first}
 use Rattle.ordering.specs.Order.{absent}
 
 -- The causes of refusal 3: over 4,096 spans, or slices of unequal length; and, after these, a present offset plus size above 16,777,216.

@@ -11,7 +11,7 @@ use borrow.Author.Tests.{lt-ltb, ne_eqb}
 use Rattle.std.proofs.lemmas.List.{length-map, get_or-map}
 use Rattle.output.proofs.Order.{by_order}
 use Rattle.bitvec.specs.Size.{max_bits}
-use Rattle.ordering.specs.Lists.{first}
+use Rattle.output.specs.Lists.{first}
 use Rattle.ordering.specs.Order.{absent}
 use Rattle.span_list.specs.Range.{bad_span, fault_at}
 use Rattle.std.specs.Prelude.{Option, None, Some}

@@ -11,7 +11,7 @@ use Rattle.numbers.specs.Digits.{digit_char, byte_text}
 use Rattle.digits.specs.Run.{digit_at, run, short_digit, hex_line}
 use Rattle.image_parts.specs.Parts.{part_bits}
 use Rattle.digits.specs.Base.{base_bits}
-use Rattle.ordering.specs.Lists.{table as numbered, first}
+use Rattle.output.specs.Lists.{table as numbered, first}
 use Rattle.ordering.specs.Order.{put_in, ordered, rank, in_order}
 use Rattle.span_list.specs.Range.{long_list, bad_span, fault_at}
 use Rattle.blocks.specs.Blocks.{present, closed, running, blocks_in, blocks_of}

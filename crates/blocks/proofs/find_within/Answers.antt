@@ -4,7 +4,7 @@ use Rattle.std.proofs.Common.{◌≡◌, ℕ, ◌≤◌, List, length, take, rep
 use Rattle.std.proofs.lemmas.List.{length-replicate}
 use Rattle.std.proofs.lemmas.List.Edits.{sets}
 use Rattle.ordering.specs.Order.{in_order}
-use Rattle.ordering.proofs.Lists.{sets_front}
+use Rattle.output.proofs.Lists.{sets_front}
 use Rattle.ordering.proofs.Keys.{in_order_length}
 use Rattle.blocks.proofs.Finding.{finds_blocks, finds_no_room}
 use Rattle.blocks.proofs.find_within.Goals as goal

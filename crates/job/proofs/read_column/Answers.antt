@@ -4,8 +4,8 @@ use mathlib.Core.Path.{◌≡◌, refl, sym, ◌∙◌}
 use Prim.Native.Nat.{ℕ, ◌+◌, ◌*◌}
 use native.Mathlib.Omega.{arith}
 use lib.ListN.{length}
-use Rattle.ordering.specs.Lists.{table}
-use Rattle.ordering.proofs.Lists.{table_next, table_length, sets_more, sets_whole}
+use Rattle.output.specs.Lists.{table}
+use Rattle.output.proofs.Lists.{table_next, table_length, sets_more, sets_whole}
 use Rattle.job.specs.Job.{word, column}
 use borrow.Author.Rules.{rules}
 use Rattle.job.proofs.read_column.Goals as goal

@@ -2,7 +2,7 @@ use mathlib.Core.Path.{◌≡◌}
 use Prim.Native.Nat.{◌+◌, ◌*◌, ◌≤◌}
 use lib.ListN.{length}
 use lib.Seq.{sets}
-use Rattle.ordering.specs.Lists.{table}
+use Rattle.output.specs.Lists.{table}
 use Rattle.job.specs.Job.{word}
 use Rattle.job.proofs.read_column.Given as goal
 

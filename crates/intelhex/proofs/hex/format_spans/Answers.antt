@@ -4,7 +4,7 @@ use Rattle.std.proofs.Common.{◌≡◌, ℕ, ◌≤◌, List, Err, length, repl
 use Rattle.std.proofs.lemmas.List.{length-replicate}
 use Rattle.std.proofs.lemmas.List.Edits.{sets}
 use Rattle.outcome.specs.Outcome.{refused}
-use Rattle.ordering.proofs.Lists.{sets_front, map_length}
+use Rattle.output.proofs.Lists.{sets_front, map_length}
 use Rattle.blocks.specs.Blocks.{Block, blocks_of}
 use Rattle.blocks.proofs.Running.{blocks_few}
 use Rattle.blocks.proofs.Finding.{refused_found, good_found, blocks_found_lem}

@@ -5,7 +5,7 @@ use Prim.Native.Nat.{ℕ}
 use native.Mathlib.Omega.{arith}
 use lib.ListN.{length-replicate}
 use Rattle.ordering.specs.Order.{in_order}
-use Rattle.ordering.proofs.Lists.{sets_front}
+use Rattle.output.proofs.Lists.{sets_front}
 use Rattle.ordering.proofs.Keys.{in_order_length}
 use Rattle.annotated.proofs.listed.Listed.list.Goals as goal
 

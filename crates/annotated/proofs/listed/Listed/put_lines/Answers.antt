@@ -7,8 +7,8 @@ use native.Mathlib.Omega.{arith}
 use lib.ListN.{length, get_or}
 use Rattle.output.proofs.Pieces.{pieces_none, pieces_next, pieces_room}
 use Rattle.output.proofs.Writes.{writes_nothing, writes_then, writes_length}
-use Rattle.ordering.proofs.Lists.{each_get}
-use Rattle.ordering.proofs.Flat.{flat_places}
+use Rattle.output.proofs.Lists.{each_get}
+use Rattle.output.proofs.Flat.{flat_places}
 use Rattle.ordering.proofs.Keys.{in_order_below}
 use Rattle.annotated.specs.InnerListed.{shown_line}
 use Rattle.annotated.proofs.listed.Listed.put_lines.Goals as goal

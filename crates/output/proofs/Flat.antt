@@ -5,8 +5,8 @@ use mathlib.Core.List.{List, [], ◌∷◌, ◌++◌, flat_map, append-nil, appe
 use Prim.Native.Nat.{ℕ, zero, suc}
 use lib.ListN.{length, get_or}
 use Rattle.output.specs.Pieces.{pieces}
-use Rattle.ordering.specs.Lists.{table}
-use Rattle.ordering.proofs.Lists.{table_list}
+use Rattle.output.specs.Lists.{table}
+use Rattle.output.proofs.Lists.{table_list}
 
 pub flat_append : {A B : Type 0} (f : A → List B) (a b : List A) → flat_map f (a ++ b) ≡ flat_map f a ++ flat_map f b
 unfolding flat_map

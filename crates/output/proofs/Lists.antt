@@ -13,7 +13,7 @@ use lib.Seq.{sets, sets-eq, ext_get_or, get_or_at, take_at, take-suc, length-tak
 use borrow.Author.Tests.{lt-ltb, le-ltb, ltb-false}
 use Rattle.output.proofs.Order.{by_order}
 use Rattle.output.proofs.Writes.{sets_append}
-use Rattle.ordering.specs.Lists.{table, Each, first}
+use Rattle.output.specs.Lists.{table, Each, first}
 
 module _ {A : Type 0} where
   pub table_next : (f : ℕ → A) (n : ℕ) → table f (n + 1) ≡ table f n ++ (f n ∷ [])
