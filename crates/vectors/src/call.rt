@@ -1,7 +1,7 @@
 // The call that a row names: its exporter with its options, strings and spans.
 use crate::exporter::Exporter;
 use crate::row::{bytes, number};
-use crate::span_list::{records, small, span_column, words};
+use crate::span_row::{records, small, span_column, words};
 use bitvec::Image;
 use format_dump::DumpOptions;
 use format_list::{FormatListOptions, ListStrings};

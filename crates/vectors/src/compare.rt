@@ -3,7 +3,7 @@
 use crate::call::export;
 use crate::exporter::Exporter;
 use crate::row::{LONGEST, begins, bytes, has, number, number_or, value};
-use crate::span_list::{column, records, span_column};
+use crate::span_row::{column, records, span_column};
 use bitvec::Image;
 use outcome::{Answer, Export};
 

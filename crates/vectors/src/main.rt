@@ -7,7 +7,7 @@ mod call;
 mod compare;
 mod exporter;
 mod row;
-mod span_list;
+mod span_row;
 
 use compare::comes_out;
 use exporter::Exporter;
