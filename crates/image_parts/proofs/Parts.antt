@@ -3,14 +3,14 @@
 use mathlib.Core.Path.{◌≡◌, refl, ap, ◌∙◌}
 use mathlib.Core.Bool.{Bool, true, false, cond}
 use mathlib.Core.List.{List}
-use Prim.Native.Nat.{ℕ, ◌+◌, ◌*◌, ◌/◌, ◌%◌, ◌<◌}
+use Prim.Native.Nat.{ℕ, ◌+◌, ◌*◌, ◌/◌, ◌%◌, ◌<◌, ◌≤◌}
 use native.Mathlib.Omega.{arith}
-use native.Mathlib.Nat.{div-add-mod', mod-lt}
+use native.Mathlib.Nat.{div-add-mod', mod-lt, le_of_mul-le-mul_right, div-mul-le_self}
 use lib.Dec.{eqb}
 use lib.ListN.{length, length-append}
 use borrow.Author.Tests.{eqb-true, eqb-false}
 use Rattle.bitvec.specs.Size.{ceil_div}
-use Rattle.bitvec.proofs.Size.{ceil_whole, ceil_short}
+use Rattle.bitvec.proofs.Size.{ceil_whole, ceil_short, ceil_covers}
 use Rattle.output.specs.Pieces.{pieces}
 use Rattle.output.proofs.Order.{stride}
 use Rattle.output.proofs.Pieces.{pieces_next, pieces_length}
@@ -42,3 +42,7 @@ parts_length f g len width p e = go (eqb (len % width) 0) refl
         rw (ceil_short len width p (omega (arith, eqb-false (len % width) 0 h)), pieces_next)
         (length-append (pieces f (len / width)) (f (len / width))
         ∙ rw (front, e (len / width), short len width p))
+
+-- The parts that the image fills are not more than all.
+pub parts_most : (len width : ℕ) → 0 < width → len / width ≤ ceil_div len width
+parts_most len width p = le_of_mul-le-mul_right {k = width} (omega (arith, ceil_covers len width p, div-mul-le_self len width)) p

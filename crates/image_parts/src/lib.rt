@@ -2,14 +2,16 @@
 // digits of each, and what stands behind them.
 #![tactic(auto)]
 
-ghost use Rattle.std.specs.Prelude.{◌≡◌, true, false, MatchOption, List, ℕ, cond, ◌+◌, ◌-◌, ◌*◌, ◌/◌, ◌%◌, ◌≤◌, ◌<◌, ◌^◌, eqb, length};
+ghost use Rattle.std.specs.Prelude.{◌≡◌, true, false, IfSome, MatchOption, List, ◌++◌, ℕ, cond, ◌+◌, ◌-◌, ◌*◌, ◌/◌, ◌%◌, ◌≤◌, ◌<◌, ◌^◌, eqb, length};
 ghost use Rattle.bitvec.specs.Size.{ceil_div};
 ghost use Rattle.output.specs.Writes.{Writes};
 ghost use Rattle.outcome.specs.Outcome.{outside};
-ghost use Rattle.image_parts.specs.InnerParts.{parts_text};
+ghost use Rattle.image_parts.specs.InnerParts.{parts_text, Runs};
 
 use bitvec::{BitOffset, GoodImage};
+use digit_groups::{DigitGroups, PutGroup};
 use digits::ByteDigits;
+use numbers::DigitWidth;
 use outcome::outside;
 
 // An image and the width of its parts, in bits.
@@ -44,7 +46,77 @@ impl<'a> ImageParts<'a> {
     }
 }
 
-// Stores the text of the parts. The offset of a part is computed from its number.
+// What writes whole parts as groups of digits: behind a group stands what stands behind a part.
+#[derive(Drop)]
+struct WholeParts<'a, T> {
+    tail: &'a T,
+    width: usize,
+    ghost small: { width ≤ 4096 },
+}
+
+impl<'a, T: PartTail> PutGroup for WholeParts<'a, T> {
+    ghost every = { λ parts. 1 };
+
+    ghost text = { λ parts k digits. digits ++ T.tail parts.tail.now (k * parts.width + parts.width) };
+
+    fn every(&self) -> usize {
+        1
+    }
+
+    fn put_group(&self, out: &mut [u8], at: usize, k: usize, turn: usize, digits: &[u8]) -> usize {
+        let next = digit_groups::put_part(out, at, digits);
+        let end = BitOffset(k * self.width + self.width);
+        self.tail.put_tail(out, next, end)
+    }
+}
+
+// The digits of a whole part, if all have as many bits, and are no more than a group may have.
+#[tactic(auto, using(crate::proofs::Runs::runs_binary, crate::proofs::Runs::runs_whole, crate::proofs::Runs::runs_short))]
+fn part_digits(kind: ByteDigits, width: usize) -> Option<DigitWidth>
+    requires { (0 < width) × (width ≤ 4096) }
+    ensures { IfSome result (λ w. Runs kind width w.bits) }
+{
+    match kind {
+        ByteDigits::Binary if width <= 1024 => Some(DigitWidth::BINARY),
+        ByteDigits::Hex if width % 4 == 0 => Some(DigitWidth::HEX),
+        ByteDigits::Hex if width < 4 => Some(DigitWidth { bits: width }),
+        _ => None,
+    }
+}
+
+// Stores the text of the parts that the image fills, whose digits have one width: those of many parts
+// are made at once.
+fn put_whole<T: PartTail>(
+    out: &mut [u8],
+    at: usize,
+    kind: ByteDigits,
+    parts: ImageParts,
+    digit: DigitWidth,
+    tail: &T,
+) -> usize
+    requires runs { Runs kind parts.width digit.bits }
+    requires room { at + length (parts_text kind parts.good.image.bytes.now parts.good.image.len parts.width (T.tail tail.now) (parts.good.image.len / parts.width)) ≤ length out.old }
+    ensures { Writes (parts_text kind parts.entry.good.image.bytes.now parts.entry.good.image.len parts.entry.width (T.tail tail.now) (parts.entry.good.image.len / parts.entry.width)) out.old at out.new result }
+{
+    let image = parts.good.image;
+    let width = parts.width;
+    let groups = DigitGroups {
+        image,
+        width: digit,
+        from: BitOffset(0),
+        size: width / digit.bits,
+    };
+    digit_groups::put_groups(
+        out,
+        at,
+        groups,
+        &WholeParts { tail, width },
+        image.len / width,
+    )
+}
+
+// Stores the text of the parts: the whole ones as groups of digits, where their digits have one width,
+// and the others one by one. The offset of a part is computed from its number.
 pub fn put_parts<T: PartTail>(
     out: &mut [u8],
     at: usize,
@@ -56,8 +128,14 @@ pub fn put_parts<T: PartTail>(
     ensures { Writes (parts_text kind parts.entry.good.image.bytes.now parts.entry.good.image.len parts.entry.width (T.tail tail.now) (ceil_div parts.entry.good.image.len parts.entry.width)) out.old at out.new result }
 {
     let image = parts.good.image;
-    let mut next = at;
-    for i in 0..bitvec::parts(image.len, parts.width) {
+    let (first, mut next) = match part_digits(kind, parts.width) {
+        Some(digit) => (
+            image.len / parts.width,
+            put_whole(out, at, kind, parts, digit, tail),
+        ),
+        None => (0, at),
+    };
+    for i in first..bitvec::parts(image.len, parts.width) {
         let from = i * parts.width;
         let count = parts.width.min(image.len - from);
         next = digits::put_line(out, next, kind, image, BitOffset(from), count);
