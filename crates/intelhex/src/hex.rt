@@ -31,7 +31,7 @@ fn format_plan(image: Image, plan: HexPlan, out: &mut [u8]) -> Export
 
 // The text of the blocks that the spans make, or refusal 3, 5 or 8. The blocks are made in two arrays
 // that have a place for each span, unless there are too many spans: the smaller N is, the less memory
-// is set to zero, as in `blocks::find_blocks`. N is bounded as in `span_order::order_within`.
+// is set to zero.
 fn format_spans<const N: usize>(
     image: Image,
     offsets: &[u32],
