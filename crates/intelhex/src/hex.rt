@@ -31,8 +31,8 @@ fn format_plan(image: Image, plan: HexPlan, out: &mut [u8]) -> Export
 
 // The text of the blocks that the spans make, or refusal 3, 5 or 8. The blocks are made in two arrays
 // that have a place for each span, unless there are too many spans: the smaller N is, the less memory
-// is set to zero, as in `blocks::find_blocks`. N is bounded as in `ordering::order_within`.
-fn format_spans<const N: usize>(
+// is set to zero.
+fn format_blocks<const N: usize>(
     image: Image,
     offsets: &[u32],
     sizes: &[u32],
@@ -69,7 +69,7 @@ pub fn format_intelhex(
     let image = image.good().ok_or(Refusal::ImageSize)?.image;
     let unit = AddressUnit::new(address_unit).ok_or(Refusal::OptionRange)?;
     if offsets.len() <= 64 {
-        return format_spans::<64>(image, offsets, sizes, unit, out);
+        return format_blocks::<64>(image, offsets, sizes, unit, out);
     }
-    format_spans::<4096>(image, offsets, sizes, unit, out)
+    format_blocks::<4096>(image, offsets, sizes, unit, out)
 }

@@ -3,7 +3,7 @@ ghost use Rattle.std.specs.Prelude.{◌≡◌, true, false, MatchOption};
 ghost use Rattle.hex_records.specs.Plan.{too_high};
 ghost use Rattle.intelhex.specs.InnerLent.{records_of, plan_of};
 
-use crate::plan::{AddressUnit, HexPlan, records};
+use crate::plan::{AddressUnit, HexPlan, record_count};
 use bitvec::BitOffset;
 use blocks::Block;
 
@@ -21,7 +21,7 @@ pub struct LowPlan<'a> {
 fn block_high(block: Block, unit: AddressUnit) -> bool
     ensures { result ≡ too_high (records_of block unit) }
 {
-    let Some(last) = records(block).checked_sub(1) else {
+    let Some(last) = record_count(block).checked_sub(1) else {
         return false;
     };
     let from = BitOffset::from(block.offset).plus(256 * last);

@@ -40,7 +40,7 @@ pub struct HexPlan<'a> {
 
 // How many records a block has, of 32 bytes each, the last one shorter.
 #[tactic(auto, using(bitvec::proofs::Size::ceil_most))]
-pub fn records(block: Block) -> usize
+pub fn record_count(block: Block) -> usize
     ensures { result ≡ ceil_div (ceil_div block.size 8) 32 }
 {
     parts(block.bytes(), 32)

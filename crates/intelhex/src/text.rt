@@ -10,7 +10,7 @@ ghost use Rattle.hex_records.specs.InnerLent.{chunk_of};
 ghost use Rattle.intelhex.specs.InnerLent.{block_of, records_of, plan_of};
 
 use crate::low::LowPlan;
-use crate::plan::{AddressUnit, HexPlan, records};
+use crate::plan::{AddressUnit, HexPlan, record_count};
 use bitvec::{BitOffset, Image};
 use blocks::Block;
 use hex_records::{DataRecord, put_record};
@@ -47,7 +47,7 @@ fn put_records(out: &mut [u8], at: usize, image: Image, block: LowBlock) -> usiz
 {
     let mut next = at;
     // The loop counts, since a record is made from its number.
-    for n in 0..records(block.block) {
+    for n in 0..record_count(block.block) {
         next = put_record(out, next, image, block.record(n));
     }
     next

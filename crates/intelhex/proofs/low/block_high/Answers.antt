@@ -14,25 +14,25 @@ within size = omega (arith, ceil_most (ceil_div size 8) 32 (omega arith), ceil_m
 
 pub returns-in_default : goal.returns-in_default
 returns-in_default c =
-    sym (block_none c.args.unit.bits (block_of c.args.block) (omega (arith, c.records.ensures, c.in_default.ensures)))
+    sym (block_none c.args.unit.bits (block_of c.args.block) (omega (arith, c.record_count.ensures, c.in_default.ensures)))
 
 pub overflow_mul-last : goal.overflow_mul-last
 overflow_mul-last c =
     let size : c.args.block.size < 2 ^ 32 = search rules in
-    record { fits = omega (arith, within c.args.block.size, c.records.ensures, c.in-Some.ensures, size) }
+    record { fits = omega (arith, within c.args.block.size, c.record_count.ensures, c.in-Some.ensures, size) }
 
 pub plus-from-requires : goal.plus-from-requires
 plus-from-requires c =
     let size : c.args.block.size < 2 ^ 32 = search rules in
     let offset : c.args.block.offset < 2 ^ 32 = search rules in
-    omega (arith, within c.args.block.size, c.records.ensures, c.in-Some.ensures, size, offset, c.from.ensures)
+    omega (arith, within c.args.block.size, c.record_count.ensures, c.in-Some.ensures, size, offset, c.from.ensures)
 
 pub returns : goal.returns
 returns c =
     let unit = c.args.unit in
     let b = block_of c.args.block in
     let m = c.in-Some.last in
-    let last : ceil_div (ceil_div b.size 8) 32 ≡ m + 1 = omega (arith, c.records.ensures, c.in-Some.ensures) in
+    let last : ceil_div (ceil_div b.size 8) 32 ≡ m + 1 = omega (arith, c.record_count.ensures, c.in-Some.ensures) in
     rw (c.address.ensures, c.plus-from.ensures, c.from.ensures)
     (by_order 65535 ((b.offset + 256 * m) / unit.bits)
     (λ h. lt-ltb 65535 _ h ∙ sym (block_too_high unit.bits b m last h))

@@ -22,7 +22,7 @@ put_record-next-requires c =
     let f : ℕ → List ℕ = λ n. record_text a.image.bytes.now a.image.len (chunk_at a.block.unit.bits (block_of a.block.block) n) in
     let size : length (f l.n) ≡ 12 + 2 * c.«record».result.count =
     ap (λ k. length (record_text a.image.bytes.now a.image.len k)) (sym c.«record».ensures) ∙ record_length a.image.bytes.now a.image.len (chunk_of c.«record».result) in
-    let more : l.n < ceil_div (ceil_div a.block.block.size 8) 32 = rw (← c.records-n-end.ensures) c.loop-n-test.true in
+    let more : l.n < ceil_div (ceil_div a.block.block.size 8) 32 = rw (← c.record_count-n-end.ensures) c.loop-n-test.true in
     let whole = ap length (block_pieces a.image.bytes.now a.image.len a.block.unit.bits (block_of a.block.block)) in
     omega (arith, pieces_room f l.n _ more, size, whole, l.invariant.next, l.auto.out, c.requires)
 
@@ -32,5 +32,5 @@ loop-n-preserved c = rw (pieces_next _ c.loop-n.n, ← c.«record».ensures) (wr
 pub returns : goal.returns
 returns c =
     let a = c.args in
-    let done : c.loop-n.n ≡ ceil_div (ceil_div a.block.block.size 8) 32 = omega (arith, c.records-n-end.ensures) in
+    let done : c.loop-n.n ≡ ceil_div (ceil_div a.block.block.size 8) 32 = omega (arith, c.record_count-n-end.ensures) in
     rw (block_pieces a.image.bytes.now a.image.len a.block.unit.bits (block_of a.block.block), ← done) c.loop-n.invariant

@@ -1,4 +1,4 @@
--- `intelhex::hex::format_spans` meets its contract: refusal 3 is that of the blocks, and else the arrays' fronts hold them.
+-- `intelhex::hex::format_blocks` meets its contract: refusal 3 is that of the blocks, and else the arrays' fronts hold them.
 -- Assumes nothing.
 use Rattle.std.proofs.Common.{◌≡◌, ℕ, ◌≤◌, List, Err, length, replicate, map, take, refl, sym, ap, ◌∙◌, arith, rules}
 use Rattle.std.proofs.lemmas.List.{length-replicate}
@@ -11,7 +11,7 @@ use Rattle.blocks.proofs.Finding.{refused_found, good_found, blocks_found_lem}
 use Rattle.hex_records.specs.Plan.{hex_plan, blocks_at}
 use Rattle.hex_records.proofs.Plan.{blocks_back}
 use Rattle.intelhex.specs.Hex.{plan_outcome}
-use Rattle.intelhex.proofs.hex.format_spans.Goals as goal
+use Rattle.intelhex.proofs.hex.format_blocks.Goals as goal
 
 -- The front of a slice in which a number of each block is stored.
 front : (before after : List ℕ) (f : Block → ℕ) (blocks : List Block) (n : ℕ) → n ≡ length blocks → n ≤ length before → after ≡ sets before 0 (map f blocks) → take n after ≡ map f blocks
