@@ -1,12 +1,11 @@
 -- The groups of a list as the code has them. No format is defined by it.
-use Rattle.std.specs.Prelude.{Bool, cond, List, ◌++◌, ℕ, eqb, length}
+use Rattle.std.specs.Prelude.{Bool, cond, List, ℕ, eqb, length}
 use Rattle.bitvec.specs.Size.{ceil_div}
-use Rattle.output.specs.Pieces.{leading}
 use Rattle.format_list.specs.declared.FormatListOptions.{FormatListOptions}
 use Rattle.format_list.specs.declared.ListStrings.{ListStrings}
 use Rattle.format_list.specs.declared.shape.ListOptions.{ListOptions}
 use Rattle.format_list.specs.declared.shape.ListGroups.{ListGroups}
-use Rattle.format_list.specs.List.{group_bits, between_groups, list_text, bad_list}
+use Rattle.format_list.specs.List.{group_bits, group_text, between_groups, list_text, bad_list}
 
 -- Whether options and strings are outside their ranges.
 abbrev pub bad_given : FormatListOptions → ListStrings → Bool
@@ -23,9 +22,9 @@ second_of o = cond (eqb (length o.strings.between2.now) 0) o.strings.between.now
 abbrev pub between_of : ListOptions → ℕ → List ℕ
 between_of o = between_groups o.given o.strings.between.now o.strings.between2.now
 
--- Group k, of whose digits this is the text, with what stands before it.
-abbrev pub group_written : ListOptions → ℕ → List ℕ → List ℕ
-group_written o k digits = leading (between_of o) k ++ digits
+-- Group k.
+abbrev pub group_of : ListGroups → ℕ → List ℕ
+group_of g = group_text g.options.given g.good.image.bytes.now g.good.image.len
 
 -- How many groups hold the image.
 abbrev pub count_of : ListGroups → ℕ

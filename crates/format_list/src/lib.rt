@@ -2,13 +2,13 @@
 // answers a text and its length, or refusal 1, 2 or 8.
 #![tactic(auto)]
 
-ghost use Rattle.std.specs.Prelude.{◌≡◌, true, false, MatchOption, ◌||◌, ◌+◌, ◌*◌, ◌%◌, ◌≤◌, ◌<◌, ◌^◌, length};
+ghost use Rattle.std.specs.Prelude.{◌≡◌, true, false, MatchOption, ◌||◌, ◌++◌, ◌+◌, ◌*◌, ◌%◌, ◌≤◌, ◌<◌, ◌^◌, length};
 ghost use Rattle.output.specs.Pieces.{pieces, leading};
 ghost use Rattle.output.specs.Writes.{Writes};
 ghost use Rattle.outcome.specs.Outcome.{too_long, Exports};
 ghost use Rattle.digits.specs.Base.{base_bits};
 ghost use Rattle.format_list.specs.List.{list_outcome};
-ghost use Rattle.format_list.specs.InnerGroups.{bad_given, every_of, second_of, between_of, group_written, count_of, list_of};
+ghost use Rattle.format_list.specs.InnerGroups.{bad_given, every_of, second_of, between_of, count_of, list_of};
 
 use bitvec::{BitOffset, Image};
 use digit_groups::{DigitGroups, PutGroup};
@@ -79,16 +79,10 @@ impl<'a> ListOptions<'a> {
     fn second(&self) -> &'a [u8]
         ensures { result.now ≡ second_of self.now }
     {
-        let ListStrings {
-            between,
-            between2,
-            ..
-        } = self.strings;
-        if between2.is_empty() {
-            between
-        } else {
-            between2
+        if self.strings.between2.is_empty() {
+            return self.strings.between;
         }
+        self.strings.between2
     }
 
     // What stands before group `k`, whose turn is k modulo `every`.
@@ -111,12 +105,8 @@ impl<'a> ListOptions<'a> {
         requires { count < 2 ^ 32 }
         ensures { (result ≡ length (pieces (leading (between_of self.entry)) count)) × (result < 2 ^ 60) }
     {
-        output::between_length(
-            count,
-            self.every(),
-            self.second().len(),
-            self.strings.between.len(),
-        )
+        let one = self.strings.between.len();
+        output::between_length(count, self.every(), self.second().len(), one)
     }
 }
 
@@ -124,7 +114,7 @@ impl<'a> ListOptions<'a> {
 impl<'a> PutGroup for ListOptions<'a> {
     ghost every = { every_of };
 
-    ghost text = { group_written };
+    ghost text = { λ o k digits. leading (between_of o) k ++ digits };
 
     fn every(&self) -> usize {
         if self.strings.between2.is_empty() {

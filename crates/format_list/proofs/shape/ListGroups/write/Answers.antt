@@ -10,10 +10,7 @@ use Rattle.format_list.proofs.Strings.{groups_joined}
 use Rattle.format_list.proofs.shape.ListGroups.write.Goals as goal
 
 pub put_all-next-requires : goal.put_all-next-requires
-put_all-next-requires c =
-    let g = c.args.self in
-    let s = g.options.strings in
-    omega (arith, c.requires, list_whole g.options.given s.before.now s.after.now s.between.now s.between2.now g.good.image.bytes.now g.good.image.len)
+put_all-next-requires c = omega (arith, c.requires, list_whole c.args.self)
 
 pub put_groups-next-requires-clause-small : goal.put_groups-next-requires-clause-small
 put_groups-next-requires-clause-small c =
@@ -24,21 +21,15 @@ put_groups-next-requires-clause-small c =
 
 pub put_groups-next-requires-clause-room : goal.put_groups-next-requires-clause-room
 put_groups-next-requires-clause-room c =
-    let g = c.args.self in
-    let s = g.options.strings in
-    rw (groups_joined g.options g.good.image.bytes.now g.good.image.len c.count.result, c.count.ensures.0)
-    (omega (arith, c.requires, list_whole g.options.given s.before.now s.after.now s.between.now s.between2.now g.good.image.bytes.now g.good.image.len, c.put_all-next.ensures.next))
+    rw (groups_joined c.args.self c.count.result, c.count.ensures.0) (omega (arith, c.requires, list_whole c.args.self, c.put_all-next.ensures.next))
 
 pub put_all-requires : goal.put_all-requires
 put_all-requires c =
-    let g = c.args.self in
-    let s = g.options.strings in
-    let groups = rw (groups_joined g.options g.good.image.bytes.now g.good.image.len c.count.result, c.count.ensures.0) at c.put_groups-next.ensures in
-    omega (arith, c.requires, list_whole g.options.given s.before.now s.after.now s.between.now s.between2.now g.good.image.bytes.now g.good.image.len, c.put_all-next.ensures.next, groups.next)
+    let groups = rw (groups_joined c.args.self c.count.result, c.count.ensures.0) at c.put_groups-next.ensures in
+    omega (arith, c.requires, list_whole c.args.self, c.put_all-next.ensures.next, groups.next)
 
 pub returns : goal.returns
 unfolding list_text
 returns c =
-    let g = c.args.self in
-    let groups = rw (groups_joined g.options g.good.image.bytes.now g.good.image.len c.count.result, c.count.ensures.0) at c.put_groups-next.ensures in
+    let groups = rw (groups_joined c.args.self c.count.result, c.count.ensures.0) at c.put_groups-next.ensures in
     writes_then c.put_all-next.ensures (writes_then groups c.put_all.ensures)
