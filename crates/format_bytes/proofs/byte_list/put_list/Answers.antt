@@ -10,7 +10,8 @@ use Rattle.bitvec.specs.Size.{ceil_div}
 use Rattle.output.specs.Pieces.{leading, joined, every}
 use Rattle.output.proofs.Joined.{joined_none, joined_next, joined_room}
 use Rattle.output.proofs.Writes.{writes_nothing, writes_then, writes_length}
-use Rattle.format_bytes.specs.Bytes.{radix_number, byte_in, byte_list}
+use Rattle.format_bytes.specs.Bytes.{byte_in, byte_list}
+use Rattle.format_bytes.specs.InnerRadix.{radix_number}
 use Rattle.format_bytes.proofs.byte_list.put_list.Goals as goal
 
 -- A byte has room, with what stands before it, where the list has.
