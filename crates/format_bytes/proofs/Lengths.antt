@@ -13,12 +13,11 @@ use Rattle.bitvec.specs.Size.{ceil_div}
 use Rattle.bitvec.proofs.Size.{ceil_most}
 use Rattle.output.specs.Ascii.{ascii}
 use Rattle.output.specs.Pieces.{pieces, every}
-use Rattle.output.proofs.Order.{by_order}
 use Rattle.output.proofs.Joined.{joined_length, between_length, every_length}
 use Rattle.numbers.specs.declared.Letters.TheVariants.{Lower}
 use Rattle.numbers.specs.Digits.{byte_text, digit_count}
-use Rattle.numbers.proofs.Digits.{count_last, count_rises, count_small, number_length, padded_length}
-use Rattle.numbers.proofs.Decimal.{count_two, count_three}
+use Rattle.numbers.proofs.Digits.{count_rises, count_small, number_length, padded_length}
+use Rattle.numbers.proofs.Decimal.{count_three}
 use Rattle.format_bytes.specs.Bytes.{byte_in, byte_list}
 use Rattle.format_bytes.specs.CArray.{address_comment, address_width, c_array_text}
 
@@ -29,10 +28,7 @@ decimal_length b = number_length Lower 10 b
 
 -- These are at most three.
 pub decimal_small : (b : ℕ) → b < 256 → digit_count 10 b ≤ 3
-decimal_small b h =
-    by_order b 10
-    (λ p. omega (arith, count_last 10 b p))
-    (λ p. by_order b 100 (λ q. omega (arith, count_two b p q)) (λ q. omega (arith, count_three b q (omega arith))))
+decimal_small b h = omega (arith, count_rises 10 (omega arith) b 255 (omega arith), count_three 255 (omega arith) (omega arith))
 
 -- A byte in radix 16 has four characters.
 pub hex_length : (b : ℕ) → length (byte_in 16 b) ≡ 4

@@ -6,13 +6,6 @@ use Rattle.output.specs.Ascii.{ascii}
 use Rattle.output.specs.Pieces.{joined, every}
 use Rattle.numbers.specs.declared.Letters.TheVariants.{Lower}
 use Rattle.numbers.specs.Digits.{byte_text, number_text}
-use Rattle.format_bytes.specs.declared.byte_list.ByteRadix.{ByteRadix}
-use Rattle.format_bytes.specs.declared.byte_list.ByteRadix.TheVariants.{Decimal, Hex}
-
--- The number of a radix, as a caller gives it.
-abbrev pub radix_number : ByteRadix → ℕ
-radix_number Decimal = 10
-radix_number Hex = 16
 
 -- A radix other than 10 and 16 is outside its range.
 unfoldable pub bad_radix : ℕ → Bool

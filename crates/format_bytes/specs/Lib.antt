@@ -1,3 +1,4 @@
 pub mod Bytes
 pub mod Separator
 pub mod CArray
+pub mod InnerRadix

@@ -5,7 +5,8 @@ ghost use Rattle.bitvec.specs.Bits.{byte_at};
 ghost use Rattle.bitvec.specs.Size.{ceil_div};
 ghost use Rattle.output.specs.Pieces.{pieces, leading, every};
 ghost use Rattle.output.specs.Writes.{Writes};
-ghost use Rattle.format_bytes.specs.Bytes.{radix_number, bad_radix, byte_in, byte_list};
+ghost use Rattle.format_bytes.specs.Bytes.{bad_radix, byte_in, byte_list};
+ghost use Rattle.format_bytes.specs.InnerRadix.{radix_number};
 
 use bitvec::{BitOffset, GoodImage};
 use numbers::Letters;

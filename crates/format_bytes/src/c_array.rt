@@ -4,7 +4,7 @@ ghost use Rattle.std.specs.Prelude.{◌≡◌, List, ◌++◌, ℕ, ◌+◌, ◌
 ghost use Rattle.output.specs.Ascii.{ascii};
 ghost use Rattle.output.specs.Writes.{Writes};
 ghost use Rattle.outcome.specs.Outcome.{Exports};
-ghost use Rattle.format_bytes.specs.Bytes.{radix_number};
+ghost use Rattle.format_bytes.specs.InnerRadix.{radix_number};
 ghost use Rattle.format_bytes.specs.CArray.{address_comment, address_width, c_array_text, c_array_outcome};
 
 use crate::byte_list::{ByteList, ByteRadix, LineStart, list_length, put_list};

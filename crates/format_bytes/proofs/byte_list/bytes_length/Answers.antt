@@ -8,7 +8,8 @@ use lib.ListN.{length, length-append}
 use Rattle.bitvec.specs.Bits.{byte_at}
 use Rattle.output.specs.Pieces.{pieces}
 use Rattle.output.proofs.Pieces.{pieces_none, pieces_next}
-use Rattle.format_bytes.specs.Bytes.{radix_number, byte_in}
+use Rattle.format_bytes.specs.Bytes.{byte_in}
+use Rattle.format_bytes.specs.InnerRadix.{radix_number}
 use Rattle.format_bytes.proofs.byte_list.bytes_length.Goals as goal
 
 pub loop-k-init : goal.loop-k-init

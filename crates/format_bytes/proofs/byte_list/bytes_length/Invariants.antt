@@ -4,7 +4,8 @@ use lib.ListN.{length}
 use Rattle.bitvec.specs.Bits.{byte_at}
 use Rattle.bitvec.specs.Size.{ceil_div}
 use Rattle.output.specs.Pieces.{pieces}
-use Rattle.format_bytes.specs.Bytes.{radix_number, byte_in}
+use Rattle.format_bytes.specs.Bytes.{byte_in}
+use Rattle.format_bytes.specs.InnerRadix.{radix_number}
 use Rattle.format_bytes.proofs.byte_list.bytes_length.Given as goal
 
 abbrev pub invariant-loop-k : goal.invariant-loop-k

@@ -1,7 +1,7 @@
 -- `format_bytes::byte_list::list_length` meets its contract: the bytes and what stands between them.
 -- Assumes nothing.
 use mathlib.Core.Path.{◌∙◌}
-use Rattle.format_bytes.specs.Bytes.{radix_number}
+use Rattle.format_bytes.specs.InnerRadix.{radix_number}
 use Rattle.format_bytes.proofs.Lengths as lengths
 use Rattle.format_bytes.proofs.byte_list.list_length.Goals as goal
 

@@ -5,7 +5,7 @@ use mathlib.Core.List.{◌++◌}
 use native.Mathlib.Omega.{arith}
 use lib.ListN.{length-append}
 use Rattle.output.specs.Ascii.{ascii}
-use Rattle.format_bytes.specs.Bytes.{radix_number}
+use Rattle.format_bytes.specs.InnerRadix.{radix_number}
 use Rattle.format_bytes.specs.CArray.{address_comment, address_width}
 use Rattle.format_bytes.proofs.Lengths.{c_array_parts, address_length}
 use Rattle.format_bytes.proofs.c_array.CArray.length.Goals as goal

@@ -2,7 +2,7 @@
 -- Assumes nothing.
 use native.Mathlib.Omega.{arith}
 use Rattle.output.proofs.Writes.{writes_then, writes_length}
-use Rattle.format_bytes.specs.Bytes.{radix_number}
+use Rattle.format_bytes.specs.InnerRadix.{radix_number}
 use Rattle.format_bytes.specs.CArray.{c_array_text}
 use Rattle.format_bytes.proofs.Lengths.{c_array_parts}
 use Rattle.format_bytes.proofs.c_array.CArray.write.Goals as goal
