@@ -29,8 +29,8 @@ pub fn get_blocks(
 {
     let columns = Columns::copy(spans);
     blocks::get_blocks(
-        columns.offsets(),
-        columns.sizes(),
+        &columns.offsets[..columns.count],
+        &columns.sizes[..columns.count],
         block_offsets,
         block_sizes,
     )
@@ -41,7 +41,13 @@ pub fn format_intelhex(image: Image, spans: &[Span], address_unit: usize, out: &
     ensures { Exports (hex_outcome image.entry.bytes.now image.entry.len (offsets_of spans.now) (sizes_of spans.now) address_unit (length out.old)) result out.old out.new }
 {
     let columns = Columns::copy(spans);
-    intelhex::format_intelhex(image, columns.offsets(), columns.sizes(), address_unit, out)
+    intelhex::format_intelhex(
+        image,
+        &columns.offsets[..columns.count],
+        &columns.sizes[..columns.count],
+        address_unit,
+        out,
+    )
 }
 
 // Exports two images with the lent records: the promise of each export, and demand 3 as
@@ -62,8 +68,8 @@ pub fn format_both(
     intelhex::format_both(
         first,
         second,
-        columns.offsets(),
-        columns.sizes(),
+        &columns.offsets[..columns.count],
+        &columns.sizes[..columns.count],
         unit,
         out,
         out2,
@@ -83,12 +89,12 @@ pub fn format_annotated(
     let columns = Columns::copy(spans);
     let others = ListingColumns::copy(spans);
     let lent = SpanColumns {
-        offsets: columns.offsets(),
-        sizes: columns.sizes(),
-        addrs: others.addrs(),
-        files: others.files(),
-        starts: others.starts(),
-        ends: others.ends(),
+        offsets: &columns.offsets[..columns.count],
+        sizes: &columns.sizes[..columns.count],
+        addrs: &others.addrs[..others.count],
+        files: &others.files[..others.count],
+        starts: &others.starts[..others.count],
+        ends: &others.ends[..others.count],
     };
     annotated::format_annotated(image, lent, sources, options, out)
 }

@@ -1,8 +1,7 @@
 // The numbers of the first records of a slice, in columns: at most one record more than a span list
-// may have, by which the core tells that a list is too long. Fixed memory: an array for each column, and
-// a count in each of two structs. The columns are their fields, since a generic struct may hold no array
-// of its type parameter.
-ghost use Rattle.std.specs.Prelude.{◌≡◌, ◌≤◌, min, length, take, map};
+// may have, by which the core tells that a list is too long. The columns are fields of two structs,
+// their numbers at the fronts of arrays: a generic struct may hold no array of its type parameter.
+ghost use Rattle.std.specs.Prelude.{◌≡◌, ◌≤◌, min, length, map};
 ghost use lib.Seq.{paste};
 
 use crate::Span;
@@ -48,18 +47,6 @@ impl Columns {
             count: spans.len().min(ROOM),
         }
     }
-
-    pub fn offsets(&self) -> &[u32]
-        ensures { result.now ≡ take self.now.count self.now.offsets }
-    {
-        &self.offsets[..self.count]
-    }
-
-    pub fn sizes(&self) -> &[u32]
-        ensures { result.now ≡ take self.now.count self.now.sizes }
-    {
-        &self.sizes[..self.count]
-    }
 }
 
 // The other numbers of the same records, which the listing needs too.
@@ -95,29 +82,5 @@ impl ListingColumns {
             ends,
             count: spans.len().min(ROOM),
         }
-    }
-
-    pub fn addrs(&self) -> &[u64]
-        ensures { result.now ≡ take self.now.count self.now.addrs }
-    {
-        &self.addrs[..self.count]
-    }
-
-    pub fn files(&self) -> &[u8]
-        ensures { result.now ≡ take self.now.count self.now.files }
-    {
-        &self.files[..self.count]
-    }
-
-    pub fn starts(&self) -> &[u64]
-        ensures { result.now ≡ take self.now.count self.now.starts }
-    {
-        &self.starts[..self.count]
-    }
-
-    pub fn ends(&self) -> &[u64]
-        ensures { result.now ≡ take self.now.count self.now.ends }
-    {
-        &self.ends[..self.count]
     }
 }

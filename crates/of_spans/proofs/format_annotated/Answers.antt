@@ -12,4 +12,4 @@ returns c =
     let of = c.copy-columns.ensures in
     let more = c.copy-others.ensures in
     rw (← few, ← front _ _ of.count of.offsets, ← front _ _ of.count of.sizes, ← front _ _ more.count more.addrs, ← front _ _ more.count more.files, ← front _ _ more.count more.starts, ← front _ _ more.count more.ends)
-    (rw (c.offsets.ensures, c.sizes.ensures, c.addrs.ensures, c.files.ensures, c.starts.ensures, c.ends.ensures) at c.format_annotated.ensures)
+    c.format_annotated.ensures

@@ -10,4 +10,4 @@ returns c =
     let a = c.args in
     let few = hex_few a.image.bytes.now a.image.len a.spans.now a.address_unit (length a.out.now) in
     let of = c.copy-columns.ensures in
-    rw (← few, ← front _ _ of.count of.offsets, ← front _ _ of.count of.sizes, ← c.offsets.ensures, ← c.sizes.ensures) c.format_intelhex.ensures
+    rw (← few, ← front _ _ of.count of.offsets, ← front _ _ of.count of.sizes) c.format_intelhex.ensures

@@ -9,4 +9,4 @@ pub returns : goal.returns
 returns c =
     let few = blocks_few c.args.spans.now (length c.args.block_offsets.now) (length c.args.block_sizes.now) in
     let of = c.copy-columns.ensures in
-    rw (← few, ← front _ _ of.count of.offsets, ← front _ _ of.count of.sizes, ← c.offsets.ensures, ← c.sizes.ensures) c.get_blocks.ensures
+    rw (← few, ← front _ _ of.count of.offsets, ← front _ _ of.count of.sizes) c.get_blocks.ensures
