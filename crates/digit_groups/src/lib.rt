@@ -1,127 +1,110 @@
-// Groups of digits with strings between them: the digits of many groups are made at once, and cut into
-// groups.
+// Digits in groups, lines or chunks: the digits of many groups are made at once, and each group is handed
+// to a writer, which stores it with what stands around it.
 #![tactic(auto)]
 
-ghost use Rattle.std.specs.Prelude.{◌≡◌, ◌+◌, ◌-◌, ◌*◌, ◌%◌, ◌≤◌, ◌<◌, ◌^◌, length};
-ghost use Rattle.output.specs.Pieces.{joined, leading};
+ghost use Rattle.std.specs.Prelude.{◌≡◌, List, ℕ, ◌+◌, ◌*◌, ◌%◌, ◌≤◌, ◌<◌, ◌^◌, length};
 ghost use Rattle.output.specs.Writes.{Writes};
-ghost use Rattle.digit_groups.specs.Groups.{strings_of, groups_of, groups_written, cut_written};
+ghost use Rattle.digit_groups.specs.InnerGroups.{groups_from, groups_text};
 
-use bitvec::BitOffset;
-pub use digit_lines::DigitGroups;
-pub use shape::Strings;
+pub use groups::DigitGroups;
+pub use part::put_part;
 
-mod shape;
+mod groups;
+mod part;
 
-// Stores what stands before group `k`, behind which there are `left` groups before the next one that
-// `every` divides.
-fn put_string(out: &mut [u8], at: usize, strings: Strings, k: usize, left: usize) -> usize
-    requires { (0 < strings.every) × (left ≡ strings.every - 1 - k % strings.every) × (at + length (leading (strings_of strings) k) ≤ length out.old) }
-    ensures { Writes (leading (strings_of strings.entry) k) out.old at out.new result }
-{
-    if k == 0 {
-        return at;
-    }
-    if left < strings.every - 1 {
-        return output::put_text(out, at, strings.between);
-    }
-    output::put_text(out, at, strings.between2)
+// What writes a group.
+pub trait PutGroup {
+    // After how many groups the turn of a group begins anew.
+    ghost every: { Self → ℕ };
+    // The text of a group, by its number and its digits.
+    ghost text: { Self → ℕ → List ℕ → List ℕ };
+
+    fn every(&self) -> usize
+        ensures { (result ≡ every self.now) × (0 < result) };
+
+    // Stores group `k`. Its turn is k modulo `every`: it is counted, so that no division is made for a
+    // group.
+    fn put_group(&self, out: &mut [u8], at: usize, k: usize, turn: usize, digits: &[u8]) -> usize
+        requires { (k < 2 ^ 32) × (turn ≡ k % every self.now) × (at + length (text self.now k digits.now) ≤ length out.old) }
+        ensures { Writes (text self.now k digits.now) out.old at out.new result };
 }
 
-// Stores the first `count` parts of `s` as the groups from group `k` on. In a turn one group is written
-// with what stands before it, and then those behind it that have `between` before them: as many as it
-// happens, so that no iterator counts them.
-#[tactic(auto, using(crate::proofs::Groups::turn_few))]
-fn put_cut(
-    out: &mut [u8],
-    at: usize,
-    s: &[u8],
-    size: usize,
-    strings: Strings,
-    k: usize,
-    count: usize,
-) -> usize
-    requires small { (0 < strings.every) × (0 < size) × (count * size ≤ length s.now) × (k + count < 2 ^ 64) }
-    requires room { at + length (cut_written strings s.now size k count) ≤ length out.old }
-    ensures { Writes (cut_written strings.entry s.now size k count) out.old at out.new result }
+// The turn behind a turn.
+fn next_turn(turn: usize, every: usize) -> usize
+    requires { turn < every }
+    ensures { result ≡ (turn + 1) % every }
 {
-    let every = strings.every;
-    let mut left = every - 1 - k % every;
-    let mut next = at;
-    let mut j = 0;
-    while j < count {
-        next = put_string(out, next, strings, k + j, left);
-        let from = j * size;
-        next = text_parts::put_part(out, next, &s[from..from + size]);
-        let more = left.min(count - 1 - j);
-        next = text_parts::put_headed(out, next, s, size, j + 1, strings.between, more);
-        left = every - 1;
-        j += 1 + more;
+    let next = turn + 1;
+    if next == every {
+        return 0;
     }
     next
 }
 
-// Stores `count` groups from group `k` on, whose digits have places in one array. Groups and strings are
-// two values, here and below: `digit_lines` has groups without strings.
-fn put_block(
-    out: &mut [u8],
-    at: usize,
-    groups: DigitGroups,
-    strings: Strings,
-    k: usize,
-    count: usize,
-) -> usize
-    requires small { (0 < strings.every) × (count * groups.size ≤ 1024) × (k + count < 2 ^ 64) × ((k + count) * (groups.size * groups.width.bits) < 2 ^ 64) }
-    requires room { at + length (groups_written strings groups k count) ≤ length out.old }
-    ensures { Writes (groups_written strings.entry groups.entry k count) out.old at out.new result }
-{
-    let from = BitOffset(k * (groups.size * groups.width.bits));
-    let digits = groups.block(from, count);
-    put_cut(out, at, &digits, groups.size, strings, k, count)
+impl<'a> DigitGroups<'a> {
+    // How many groups have their digits made at once: eight or a multiple where they have places, so
+    // that the digits of the next ones start with a byte if these do.
+    fn at_once(self) -> usize
+        ensures { (0 < result) × (result * self.entry.size ≤ 1024) }
+    {
+        let most = 1024 / self.size;
+        if most < 8 {
+            return most;
+        }
+        most - most % 8
+    }
 }
 
-// Stores `count` groups, block by block.
-fn put_blocks(
+// Stores `count` groups from group `first` on, whose digits have places in one array.
+fn put_some<W: PutGroup>(
     out: &mut [u8],
     at: usize,
     groups: DigitGroups,
-    strings: Strings,
+    writer: &W,
+    first: usize,
     count: usize,
 ) -> usize
-    requires small { (0 < count → 0 < strings.every) × (count * (groups.size * groups.width.bits) < 2 ^ 64) }
-    requires room { at + length (joined (strings_of strings) (groups_of groups) count) ≤ length out.old }
-    ensures { Writes (joined (strings_of strings.entry) (groups_of groups.entry) count) out.old at out.new result }
+    requires small { (count * groups.size ≤ 1024) × (first + count ≤ 2 ^ 32) × (groups.from.0 + (first + count) * (groups.size * groups.width.bits) < 2 ^ 64) }
+    requires room { at + length (groups_from (W.text writer.now) groups first count) ≤ length out.old }
+    ensures { Writes (groups_from (W.text writer.now) groups.entry first count) out.old at out.new result }
 {
-    let most = groups.block_lines();
+    let DigitGroups {
+        image,
+        width,
+        size,
+        ..
+    } = groups;
+    let from = groups.from.plus(first * (size * width.bits));
+    let mut digits = [0; 1024];
+    digits::put_run(&mut digits, 0, image, width, from, count * size);
+    let every = writer.every();
+    let mut turn = first % every;
     let mut next = at;
-    // The first group of a block is computed with.
+    for j in 0..count {
+        let group = &digits[j * size..j * size + size];
+        next = writer.put_group(out, next, first + j, turn, group);
+        turn = next_turn(turn, every);
+    }
+    next
+}
+
+// Stores `count` groups.
+pub fn put_groups<W: PutGroup>(
+    out: &mut [u8],
+    at: usize,
+    groups: DigitGroups,
+    writer: &W,
+    count: usize,
+) -> usize
+    requires small { (count ≤ 2 ^ 32) × (groups.from.0 + count * (groups.size * groups.width.bits) < 2 ^ 64) }
+    requires room { at + length (groups_text (W.text writer.now) groups count) ≤ length out.old }
+    ensures { Writes (groups_text (W.text writer.now) groups.entry count) out.old at out.new result }
+{
+    let most = groups.at_once();
+    let mut next = at;
+    // The first of the groups that are made at once is computed with.
     for k in (0..count).step_by(most) {
-        let block = most.min(count - k);
-        next = put_block(out, next, groups, strings, k, block);
+        next = put_some(out, next, groups, writer, k, most.min(count - k));
     }
     next
-}
-
-// Stores `count` groups with the strings between them. Where `between2` stands before each, it is taken
-// as the one string of a single turn of all groups, which are one loop then.
-pub fn put_groups(
-    out: &mut [u8],
-    at: usize,
-    groups: DigitGroups,
-    strings: Strings,
-    count: usize,
-) -> usize
-    requires small { (0 < count → 0 < strings.every) × (count * (groups.size * groups.width.bits) < 2 ^ 64) }
-    requires room { at + length (joined (strings_of strings) (groups_of groups) count) ≤ length out.old }
-    ensures { Writes (joined (strings_of strings.entry) (groups_of groups.entry) count) out.old at out.new result }
-{
-    if strings.every == 1 {
-        let one = Strings {
-            every: count,
-            between: strings.between2,
-            between2: strings.between2,
-        };
-        return put_blocks(out, at, groups, one, count);
-    }
-    put_blocks(out, at, groups, strings, count)
 }

@@ -1,4 +1,3 @@
 mod Lengths
 mod Ranges
-mod Alike
 mod Strings

@@ -1,42 +1,59 @@
--- Groups that are not whole bytes: their strings go by how many groups there are from one second string to the next.
+-- What stands between the groups of a list goes by one test, with a second string or without.
 -- Assumes nothing.
 use mathlib.Core.Path.{◌≡◌, refl, ap, ◌∙◌}
 use mathlib.Core.Bool.{Bool, true, false, cond, not, ◌&&◌}
-use mathlib.Core.List.{List, [], ◌++◌}
-use Prim.Native.Nat.{ℕ, ◌%◌, ◌<◌}
-use native.Mathlib.Nat.{mod-eq_of_lt}
+use mathlib.Core.List.{List, ◌++◌}
+use Prim.Native.Nat.{ℕ, ◌+◌, ◌*◌, ◌%◌, ◌≤◌, ◌<◌}
+use native.Mathlib.Omega.{arith}
+use native.Mathlib.Nat.{zero-add}
 use lib.Dec.{eqb}
 use lib.ListN.{length}
-use Rattle.output.specs.Pieces.{leading, joined}
+use borrow.Author.Tests.{eqb-false}
+use Rattle.output.specs.Pieces.{pieces, leading, joined}
 use Rattle.output.proofs.Pieces.{pieces_equal}
+use Rattle.output.proofs.Joined.{either_length}
 use Rattle.bases.specs.Base.{base_bits}
-use Rattle.digit_groups.specs.Groups.{string_at, group_at}
-use Rattle.format_list.specs.declared.FormatListOptions.{FormatListOptions}
+use Rattle.digits.specs.Run.{run}
+use Rattle.format_list.specs.declared.shape.ListOptions.{ListOptions}
 use Rattle.format_list.specs.List.{group_text, between_groups}
+use Rattle.format_list.specs.InnerGroups.{every_of, second_of, between_of}
 
--- What stands before group k.
-same_string : (o : FormatListOptions) (between between2 : List ℕ) (size count k : ℕ) → size ≡ cond (eqb (length between2) 0) count o.groups_per_group2
-    → k < count → leading (between_groups o between between2) k ≡ leading (string_at size between between2) k
-unfolding leading between_groups string_at
-same_string o between between2 size count k e h = go (eqb k 0) (eqb (length between2) 0) refl refl
+-- Before group k.
+pub between_either : (o : ListOptions) (k : ℕ) → between_of o k ≡ cond (eqb (k % every_of o) 0) (second_of o) o.strings.between.now
+unfolding between_groups
+between_either o k = go o.given.groups_per_group2 o.strings.between.now o.strings.between2.now (eqb (length o.strings.between2.now) 0)
   where
-    go : (z t : Bool) → eqb k 0 ≡ z → eqb (length between2) 0 ≡ t
-        → cond (eqb k 0) [] (cond (not (eqb (length between2) 0) && eqb (k % o.groups_per_group2) 0) between2 between)
-        ≡ cond (eqb k 0) [] (cond (eqb (k % size) 0) between2 between)
-    go true t p q = simp p
-    go false true p q =
-        let all : size ≡ count = e ∙ rw q in
-        let rest : k % size ≡ k = rw all (mod-eq_of_lt h) in
-        simp (p, q, rest)
-    go false false p q =
-        let n : size ≡ o.groups_per_group2 = e ∙ rw q in
-        simp (p, q, n)
+    same : (b : Bool) (one : List ℕ) → one ≡ cond b one one
+    same true one = refl
+    same false one = refl
+
+    go : (n : ℕ) (one two : List ℕ) (t : Bool) → cond (not t && eqb (k % n) 0) two one ≡ cond (eqb (k % cond t 1 n) 0) (cond t one two) one
+    go n one two true = same (eqb (k % 1) 0) one
+    go n one two false = refl
+
+-- Its length.
+pub either_long : (o : ListOptions) (k : ℕ) → length (between_of o k) ≡ cond (eqb (k % every_of o) 0) (length (second_of o)) (length o.strings.between.now)
+either_long o k = ap length (between_either o k) ∙ either_length (eqb (k % every_of o) 0) (second_of o) o.strings.between.now
+
+-- A group has a turn.
+pub every_some : (o : ListOptions) → 0 < every_of o
+every_some o = go (eqb (length o.strings.between2.now) 0) refl
+  where
+    go : (t : Bool) → eqb (length o.strings.between2.now) 0 ≡ t → 0 < cond t 1 o.given.groups_per_group2
+    go true e = omega arith
+    go false e = o.place (omega (arith, eqb-false (length o.strings.between2.now) 0 e))
+
+-- The string at a turn's begin is short.
+pub second_short : (o : ListOptions) → length (second_of o) ≤ 256
+second_short o = go (eqb (length o.strings.between2.now) 0)
+  where
+    go : (t : Bool) → length (cond t o.strings.between.now o.strings.between2.now) ≤ 256
+    go true = o.inner.0
+    go false = o.inner.1
 
 -- All groups.
-pub groups_alike : (o : FormatListOptions) (between between2 bytes : List ℕ) (len w size count : ℕ)
-    → size ≡ cond (eqb (length between2) 0) count o.groups_per_group2 → w ≡ base_bits o.base
-    → joined (between_groups o between between2) (group_text o bytes len) count
-    ≡ joined (string_at size between between2) (group_at bytes len w o.digits_per_group) count
-unfolding joined group_text group_at
-groups_alike o between between2 bytes len w size count e b =
-    rw b (pieces_equal _ _ count (λ k h. ap (λ (t : List ℕ). t ++ group_text o bytes len k) (same_string o between between2 size count k e h)))
+pub groups_joined : (o : ListOptions) (bytes : List ℕ) (len n : ℕ)
+    → pieces (λ k. leading (between_of o) k ++ run bytes len o.width.bits (0 + k * (o.given.digits_per_group * o.width.bits)) o.given.digits_per_group) n
+    ≡ joined (between_of o) (group_text o.given bytes len) n
+unfolding joined group_text
+groups_joined o bytes len n = rw o.bits.0 (pieces_equal _ _ n (λ k h. rw (zero-add (k * (o.given.digits_per_group * base_bits o.given.base)))))

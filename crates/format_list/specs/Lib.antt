@@ -1,3 +1,2 @@
 pub mod List
-pub mod Bytes
-pub mod Groups
+pub mod InnerGroups

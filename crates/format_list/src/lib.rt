@@ -2,20 +2,18 @@
 // answers a text and its length, or refusal 1, 2 or 8.
 #![tactic(auto)]
 
-ghost use Rattle.std.specs.Prelude.{◌≡◌, true, false, cond, MatchOption, ◌||◌, ◌++◌, ◌+◌, ◌-◌, ◌*◌, ◌≤◌, ◌<◌, ◌^◌, eqb, length};
+ghost use Rattle.std.specs.Prelude.{◌≡◌, true, false, MatchOption, ◌||◌, ◌+◌, ◌*◌, ◌%◌, ◌≤◌, ◌<◌, ◌^◌, length};
 ghost use Rattle.output.specs.Pieces.{pieces, leading};
 ghost use Rattle.output.specs.Writes.{Writes};
 ghost use Rattle.outcome.specs.Outcome.{too_long, Exports};
 ghost use Rattle.bases.specs.Base.{base_bits};
 ghost use Rattle.format_list.specs.List.{list_outcome};
-ghost use Rattle.format_list.specs.Bytes.{group_kind};
-ghost use Rattle.format_list.specs.Groups.{bad_given, between_of, bytes_of, groups_of, count_of, alike_of, list_of};
+ghost use Rattle.format_list.specs.InnerGroups.{bad_given, every_of, second_of, between_of, group_written, count_of, list_of};
 
-use bitvec::{BitOffset, Image, WholeBytes};
-use digit_groups::{DigitGroups, Strings};
+use bitvec::{BitOffset, Image};
+use digit_groups::{DigitGroups, PutGroup};
 use outcome::{Export, Refusal};
-use rows::ByteDigits;
-use shape::{ByteGroups, ListGroups, ListOptions};
+use shape::{ListGroups, ListOptions};
 
 mod shape;
 
@@ -77,19 +75,35 @@ impl<'a> ListOptions<'a> {
         })
     }
 
-    // How many groups there are from one second string to the next, where it is there.
-    fn every(self) -> Option<usize>
-        ensures { MatchOption result (length self.entry.strings.between2.now ≡ 0) (λ n. (n ≡ self.entry.given.groups_per_group2) × (0 < length self.entry.strings.between2.now)) }
+    // The string before each group whose number `every` divides: the second, where it is there.
+    fn second(&self) -> &'a [u8]
+        ensures { result.now ≡ second_of self.now }
     {
-        let second = !self.strings.between2.is_empty();
-        second.then_some(self.given.groups_per_group2)
+        let ListStrings {
+            between,
+            between2,
+            ..
+        } = self.strings;
+        if between2.is_empty() {
+            between
+        } else {
+            between2
+        }
     }
 
-    // The same of `count` groups: all, where there is no second string.
-    fn segment(self, count: usize) -> usize
-        ensures { result ≡ cond (eqb (length self.entry.strings.between2.now) 0) count self.entry.given.groups_per_group2 }
+    // What stands before group `k`, whose turn is k modulo `every`.
+    #[tactic(auto, using(crate::proofs::Strings::between_either), unfolding(output::specs::Pieces::leading))]
+    fn string_before(&self, k: usize, turn: usize) -> &'a [u8]
+        requires { turn ≡ k % every_of self.now }
+        ensures { result.now ≡ leading (between_of self.now) k }
     {
-        self.every().unwrap_or(count)
+        if k == 0 {
+            return b"";
+        }
+        if turn == 0 {
+            return self.second();
+        }
+        self.strings.between
     }
 
     // The length of the strings between `count` groups.
@@ -97,11 +111,31 @@ impl<'a> ListOptions<'a> {
         requires { count < 2 ^ 32 }
         ensures { (result ≡ length (pieces (leading (between_of self.entry)) count)) × (result < 2 ^ 60) }
     {
-        let one = self.strings.between.len();
-        match self.every() {
-            Some(every) => output::between_length(count, every, self.strings.between2.len(), one),
-            None => output::between_length(count, 1, one, one),
+        output::between_length(
+            count,
+            self.every(),
+            self.second().len(),
+            self.strings.between.len(),
+        )
+    }
+}
+
+// A group is the string before it, but before the first, and its digits.
+impl<'a> PutGroup for ListOptions<'a> {
+    ghost every = { every_of };
+
+    ghost text = { group_written };
+
+    fn every(&self) -> usize {
+        if self.strings.between2.is_empty() {
+            return 1;
         }
+        self.given.groups_per_group2
+    }
+
+    fn put_group(&self, out: &mut [u8], at: usize, k: usize, turn: usize, digits: &[u8]) -> usize {
+        let next = output::put_text(out, at, self.string_before(k, turn));
+        digit_groups::put_part(out, next, digits)
     }
 }
 
@@ -125,119 +159,21 @@ impl<'a> ListGroups<'a> {
         strings.before.len() + groups + strings.after.len()
     }
 
-    // Stores the groups with the strings between them: by bytes, where a group has whole bytes of
-    // hexadecimal or binary digits.
-    fn put_groups(self, out: &mut [u8], at: usize) -> usize
-        requires { at + length (groups_of self (count_of self)) ≤ length out.old }
-        ensures { Writes (groups_of self.entry (count_of self.entry)) out.old at out.new result }
-    {
-        let count = self.count();
-        if count == 0 {
-            return at;
-        }
-        if let Some(groups) = ByteGroups::new(self) {
-            return groups.put(out, at, count);
-        }
-        let groups = DigitGroups {
-            image: self.good.image,
-            width: self.options.width,
-            size: self.options.given.digits_per_group,
-        };
-        let strings = Strings {
-            every: self.options.segment(count),
-            between: self.options.strings.between,
-            between2: self.options.strings.between2,
-        };
-        digit_groups::put_groups(out, at, groups, strings, count)
-    }
-
     // Stores the list.
     fn write(self, out: &mut [u8]) -> usize
         requires { length (list_of self) ≤ length out.old }
         ensures { Writes (list_of self.entry) out.old 0 out.new result }
     {
         let strings = self.options.strings;
+        let groups = DigitGroups {
+            image: self.good.image,
+            width: self.options.width,
+            from: BitOffset(0),
+            size: self.options.given.digits_per_group,
+        };
         let mut next = output::put_all(out, 0, strings.before);
-        next = self.put_groups(out, next);
+        next = digit_groups::put_groups(out, next, groups, &self.options, self.count());
         output::put_all(out, next, strings.after)
-    }
-}
-
-impl<'a> ByteGroups<'a> {
-    // The groups of a list, where they are whole bytes of hexadecimal or binary digits.
-    #[tactic(auto, using(crate::proofs::Alike::other_digits, crate::proofs::Alike::digits_left))]
-    fn new(list: ListGroups<'a>) -> Option<ByteGroups<'a>>
-        ensures { MatchOption result (bytes_of list.entry ≡ 0) (λ g. (g.list ≡ list.entry) × (g.kind ≡ group_kind list.entry.options.width.bits) × (g.bytes ≡ bytes_of list.entry)) }
-    {
-        let kind = ByteDigits::with_bits(list.options.width.bits)?;
-        let bytes = kind.bytes_in(list.options.given.digits_per_group)?;
-        Some(ByteGroups { list, kind, bytes })
-    }
-
-    // Stores `count` groups from group `k` on with the first string between them. All but the last are
-    // whole bytes of the image. This and the next two ask for a count above 0: no NonZero, since it is a
-    // difference in `put`, and would be made one at each call.
-    fn put_alike(self, out: &mut [u8], at: usize, k: usize, count: usize) -> usize
-        requires inside { (0 < count) × ((k + (count - 1)) * (self.bytes * 8) ≤ self.list.good.image.len) }
-        requires room { at + length (alike_of self.list k (count - 1)) ≤ length out.old }
-        ensures { Writes (alike_of self.entry.list k (count - 1)) out.old at out.new result }
-    {
-        let image = self.list.good.image;
-        let options = self.list.options;
-        let more = count - 1;
-        let wide = self.bytes;
-        let between = options.strings.between;
-        let bytes = WholeBytes {
-            image,
-            first: k * wide,
-            count: more * wide,
-        };
-        let next = rows::put_rows(out, at, self.kind, bytes, wide, between, more);
-        let from = BitOffset((k + more) * (wide * 8));
-        let digits = options.given.digits_per_group;
-        digits::put_run(out, next, image, options.width, from, digits)
-    }
-
-    // Stores `count` groups of whole bytes of the image from group `k` on with the first string between
-    // them and the second behind them. Where that is not the shorter one, the first is written behind
-    // the last group too, as behind the others, and then written over.
-    fn put_closed(self, out: &mut [u8], at: usize, k: usize, count: usize) -> usize
-        requires inside { (0 < count) × ((k + count) * (self.bytes * 8) ≤ self.list.good.image.len) }
-        requires room { at + length (alike_of self.list k (count - 1) ++ self.list.options.strings.between2.now) ≤ length out.old }
-        ensures { Writes (alike_of self.entry.list k (count - 1) ++ self.entry.list.options.strings.between2.now) out.old at out.new result }
-    {
-        let strings = self.list.options.strings;
-        let between = strings.between;
-        if strings.between2.len() < between.len() {
-            let end = self.put_alike(out, at, k, count);
-            return output::put_text(out, end, strings.between2);
-        }
-        let image = self.list.good.image;
-        let wide = self.bytes;
-        let bytes = WholeBytes {
-            image,
-            first: k * wide,
-            count: count * wide,
-        };
-        let next = rows::put_rows(out, at, self.kind, bytes, wide, between, count);
-        output::put_text(out, next - between.len(), strings.between2)
-    }
-
-    // Stores `count` groups with the strings between them. The loop stops before the last segment, which
-    // has no string behind it, so that a range in steps of `size` is no plainer.
-    fn put(self, out: &mut [u8], at: usize, count: usize) -> usize
-        requires inside { (0 < count) × ((count - 1) * (self.bytes * 8) ≤ self.list.good.image.len) }
-        requires room { at + length (groups_of self.list count) ≤ length out.old }
-        ensures { Writes (groups_of self.entry.list count) out.old at out.new result }
-    {
-        let size = self.list.options.segment(count);
-        let mut next = at;
-        let mut k = 0;
-        while size < count - k {
-            next = self.put_closed(out, next, k, size);
-            k += size;
-        }
-        self.put_alike(out, next, k, count - k)
     }
 }
 

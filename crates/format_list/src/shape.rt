@@ -1,13 +1,11 @@
-// The list as a value: its image and its options, which are in their range, and its groups as bytes.
+// The list as a value: its image and its options, which are in their range.
 
-ghost use Rattle.std.specs.Prelude.{◌≡◌, ◌*◌, ◌≤◌, ◌<◌, length};
-ghost use Rattle.rows.specs.Rows.{digits_per_byte, digit_bits};
+ghost use Rattle.std.specs.Prelude.{◌≡◌, ◌≤◌, ◌<◌, length};
 ghost use Rattle.bases.specs.Base.{base_bits};
 
 use crate::{FormatListOptions, ListStrings};
 use bitvec::GoodImage;
 use numbers::DigitWidth;
-use rows::ByteDigits;
 
 // Options and strings that are in their range, with the digits of the base.
 #[derive(Clone, Copy)]
@@ -27,15 +25,4 @@ pub struct ListOptions<'a> {
 pub struct ListGroups<'a> {
     pub good: GoodImage<'a>,
     pub options: ListOptions<'a>,
-}
-
-// Groups that are whole bytes: how their digits are written, and how many bytes each has.
-#[derive(Clone, Copy)]
-pub struct ByteGroups<'a> {
-    pub list: ListGroups<'a>,
-    pub kind: ByteDigits,
-    pub bytes: usize,
-    ghost base: { base_bits list.options.given.base ≡ digit_bits kind },
-    ghost digits: { list.options.given.digits_per_group ≡ bytes * digits_per_byte kind },
-    ghost few: { (0 < bytes) × (bytes ≤ 64) },
 }

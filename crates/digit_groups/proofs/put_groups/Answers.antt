@@ -1,20 +1,48 @@
--- `digit_groups::put_groups` meets its contract: one string before all groups, or two.
+-- `digit_groups::put_groups` meets its contract: after each turn the groups before group k are written.
 -- Assumes nothing.
-use mathlib.Core.Path.{◌≡◌}
-use Rattle.output.specs.Pieces.{joined}
-use Rattle.digit_groups.specs.Groups.{string_at, group_at}
-use Rattle.digit_groups.proofs.Groups.{one_string}
+use mathlib.Core.Path.{◌≡◌, ap}
+use mathlib.Core.List.{List}
+use Prim.Native.Nat.{ℕ, ◌+◌, ◌≤◌}
+use native.Mathlib.Omega.{arith}
+use lib.ListN.{length, length-append}
+use borrow.Author.Rules.{rules}
+use Rattle.output.proofs.Pieces.{pieces_none, pieces_append, pieces_most}
+use Rattle.output.proofs.Writes.{writes_nothing, writes_then}
+use Rattle.digit_groups.specs.InnerGroups.{group_of, groups_from, groups_text}
 use Rattle.digit_groups.proofs.put_groups.Goals as goal
 
-pub put_blocks-requires : goal.put_blocks-requires
-put_blocks-requires c =
-    let all : (let a = c.args in joined (string_at a.strings.every a.strings.between.now a.strings.between2.now) (group_at a.groups.image.bytes.now a.groups.image.len a.groups.width.bits a.groups.size) a.count ≡ joined (string_at a.count a.strings.between2.now a.strings.between2.now) (group_at a.groups.image.bytes.now a.groups.image.len a.groups.width.bits a.groups.size) a.count) = let a = c.args in
-    one_string a.count a.strings.between.now a.strings.between2.now (group_at a.groups.image.bytes.now a.groups.image.len a.groups.width.bits a.groups.size) a.strings.every a.count c.if-strings-eq1.true in
-    let small = c.requires.small in
-    record { small = ((λ h. h), small.1); room = rw (← all) c.requires.room }
+pub loop-k-init : goal.loop-k-init
+loop-k-init g c = (search rules, rw pieces_none (writes_nothing _ _))
 
-pub returns-then-strings-eq1 : goal.returns-then-strings-eq1
-returns-then-strings-eq1 c =
-    let all : (let a = c.args in joined (string_at a.strings.every a.strings.between.now a.strings.between2.now) (group_at a.groups.image.bytes.now a.groups.image.len a.groups.width.bits a.groups.size) a.count ≡ joined (string_at a.count a.strings.between2.now a.strings.between2.now) (group_at a.groups.image.bytes.now a.groups.image.len a.groups.width.bits a.groups.size) a.count) = let a = c.args in
-    one_string a.count a.strings.between.now a.strings.between2.now (group_at a.groups.image.bytes.now a.groups.image.len a.groups.width.bits a.groups.size) a.strings.every a.count c.if-strings-eq1.true in
-    rw (all) c.put_blocks.ensures
+pub put_some-next-requires-clause-room : goal.put_some-next-requires-clause-room
+put_some-next-requires-clause-room g c =
+    let a = c.args in
+    let l = c.loop-k in
+    let n = c.min.result in
+    let within : l.k + n ≤ a.count = omega (arith, c.min.ensures, c.loop-k-test.true) in
+    let text = g.W.PutGroup.text a.writer.now in
+    let group : ℕ → List ℕ = λ k. text k (group_of a.groups k) in
+    omega (
+      arith,
+      l.invariant.1.next,
+      l.auto.out,
+      ap length (pieces_append group l.k n),
+      length-append (groups_text text a.groups l.k) (groups_from text a.groups l.k n),
+      pieces_most group (l.k + n) a.count within,
+      c.requires.room,
+    )
+
+pub loop-k-preserved : goal.loop-k-preserved
+loop-k-preserved g c =
+    let most : c.min.result ≡ c.at_once-most.result = omega (arith, c.min.ensures) in
+    (omega (arith, c.min.ensures), rw (← most, pieces_append) (writes_then c.loop-k.invariant.1 c.put_some-next.ensures))
+
+pub returns : goal.returns
+returns g c =
+    let done : c.loop-k.k ≡ c.args.count = omega (arith, c.loop-k.invariant.0, c.loop-k-test.false) in
+    rw done at c.loop-k.invariant.1
+
+pub returns-2 : goal.returns-2
+returns-2 g c =
+    let last : c.args.count ≡ c.loop-k.k + c.min.result = omega (arith, c.min.ensures, c.loop-k-test.true) in
+    rw (last, pieces_append) (writes_then c.loop-k.invariant.1 c.put_some-next.ensures)

@@ -1,41 +1,35 @@
 -- The groups of a list as the code has them. No format is defined by it.
-use Rattle.std.specs.Prelude.{Bool, List, ℕ}
+use Rattle.std.specs.Prelude.{Bool, cond, List, ◌++◌, ℕ, eqb, length}
 use Rattle.bitvec.specs.Size.{ceil_div}
-use Rattle.output.specs.Pieces.{joined}
+use Rattle.output.specs.Pieces.{leading}
 use Rattle.format_list.specs.declared.FormatListOptions.{FormatListOptions}
 use Rattle.format_list.specs.declared.ListStrings.{ListStrings}
 use Rattle.format_list.specs.declared.shape.ListOptions.{ListOptions}
 use Rattle.format_list.specs.declared.shape.ListGroups.{ListGroups}
-use Rattle.format_list.specs.List.{group_bits, group_text, between_groups, list_text, bad_list}
-use Rattle.format_list.specs.Bytes.{group_bytes, alike}
+use Rattle.format_list.specs.List.{group_bits, between_groups, list_text, bad_list}
 
 -- Whether options and strings are outside their ranges.
 abbrev pub bad_given : FormatListOptions → ListStrings → Bool
 bad_given o s = bad_list o s.before.now s.after.now s.between.now s.between2.now
 
+-- The string before each group whose number every_of divides: the second, or the first where there is no second.
+abbrev pub every_of : ListOptions → ℕ
+every_of o = cond (eqb (length o.strings.between2.now) 0) 1 o.given.groups_per_group2
+
+abbrev pub second_of : ListOptions → List ℕ
+second_of o = cond (eqb (length o.strings.between2.now) 0) o.strings.between.now o.strings.between2.now
+
 -- What stands before group k.
 abbrev pub between_of : ListOptions → ℕ → List ℕ
 between_of o = between_groups o.given o.strings.between.now o.strings.between2.now
 
--- Group k.
-abbrev pub group_of : ListGroups → ℕ → List ℕ
-group_of g = group_text g.options.given g.good.image.bytes.now g.good.image.len
-
--- The first n groups with the strings between them.
-abbrev pub groups_of : ListGroups → ℕ → List ℕ
-groups_of g n = joined (between_of g.options) (group_of g) n
+-- Group k, of whose digits this is the text, with what stands before it.
+abbrev pub group_written : ListOptions → ℕ → List ℕ → List ℕ
+group_written o k digits = leading (between_of o) k ++ digits
 
 -- How many groups hold the image.
 abbrev pub count_of : ListGroups → ℕ
 count_of g = ceil_div g.good.image.len (group_bits g.options.given)
-
--- How many bytes a group has, 0 where it is not whole bytes.
-abbrev pub bytes_of : ListGroups → ℕ
-bytes_of g = group_bytes g.options.width.bits g.options.given.digits_per_group
-
--- Groups k to k + n with the first string between them.
-abbrev pub alike_of : ListGroups → ℕ → ℕ → List ℕ
-alike_of g = alike g.options.given g.good.image.bytes.now g.good.image.len g.options.strings.between.now
 
 -- The list.
 abbrev pub list_of : ListGroups → List ℕ
