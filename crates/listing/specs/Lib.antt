@@ -1,3 +1,4 @@
 pub mod Listing
+pub mod InnerContents
 pub mod InnerFits
 pub mod InnerLine

@@ -1,73 +1,91 @@
--- `listing::contents::put_contents` meets its contract: after k turns k digits are written.
+-- `listing::contents::put_contents` meets its contract: few digits, or groups that the image has whole and the digits behind them.
 -- Assumes nothing.
-use mathlib.Core.Path.{◌≡◌, refl, ap}
-use native.Mathlib.Nat.{mod-lt}
+use mathlib.Core.Path.{◌≡◌, ap}
+use mathlib.Core.List.{◌++◌}
+use Prim.Native.Nat.{ℕ, ◌-◌, ◌*◌, ◌/◌, ◌≤◌, ◌<◌, ◌^◌, min}
+use native.Mathlib.Nat.{mul_assoc, mul-le-mul, mul-le-mul_right, mul-mod_left, div-mul-le_self}
 use native.Mathlib.Omega.{arith}
-use lib.ListN.{length}
-use Rattle.output.proofs.Order.{stride}
-use Rattle.output.proofs.Joined.{joined_none, joined_next, joined_room}
-use Rattle.output.proofs.Writes.{writes_nothing, writes_then, writes_length}
-use Rattle.bitvec.proofs.Size.{ceil_reach}
-use Rattle.listing.proofs.Digits.{gap, digit, turn_next, turn_anew, contents_digits}
-use Rattle.listing.proofs.contents.put_contents.Goals.{then-turn-group, else-turn-group}
+use lib.ListN.{length, length-append}
+use Rattle.bitvec.specs.Size.{ceil_div}
+use Rattle.bitvec.specs.declared.Image.{Image}
+use Rattle.bitvec.proofs.Size.{ceil_most}
+use Rattle.output.specs.Pieces.{pieces}
+use Rattle.output.proofs.Writes.{writes_then, room_then}
+use Rattle.listing.specs.declared.ListingOptions.{ListingOptions}
+use Rattle.listing.specs.Listing.{contents}
+use Rattle.listing.specs.InnerContents.{digits_from, spaced_group}
+use Rattle.listing.proofs.Digits.{group_at, contents_digits, contents_parts}
 use Rattle.listing.proofs.contents.put_contents.Goals as goal
 
-pub loop-k-init : goal.loop-k-init
-loop-k-init c = (omega arith, rw (joined_none _ _) (writes_nothing _ _), refl)
+-- how many groups are cut from runs
+record Cut (o : ListingOptions) (image : Image) (offset size count n : ℕ) : Type 0 where
+  few : n * o.given.digits_per_group ≤ count
+  short : count < 2 ^ 32
+  parts : contents o.given image.bytes.now image.len offset size
+      ≡ pieces (λ k. spaced_group k (group_at o image offset k)) n ++ digits_from o image offset (n * o.given.digits_per_group) (count - n * o.given.digits_per_group)
 
-pub put_gap-next-requires : goal.put_gap-next-requires
-put_gap-next-requires c =
+cut : (o : ListingOptions) (image : Image) (offset size from count rest n : ℕ) → size < 2 ^ 32 → from ≡ offset → count ≡ ceil_div size o.width.bits
+    → rest ≡ image.len - from → n ≡ min (rest / (o.given.digits_per_group * o.width.bits)) (count / o.given.digits_per_group) → Cut o image offset size count n
+cut o image offset size from count rest n s d e f h =
+    let g = o.given.digits_per_group in
+    let least : n ≤ count / g = omega (arith, h) in
+    let inside : n ≤ (image.len - offset) / (g * o.width.bits) = rw (← d, ← f) (omega (arith, h)) in
+    record {
+      few = omega (arith, mul-le-mul_right g least, div-mul-le_self count g);
+      short = omega (arith, s, e, ceil_most size o.width.bits o.some);
+      parts = contents_parts o image offset size count n e least inside;
+    }
+
+pub put_digits-requires-clause-room : goal.put_digits-requires-clause-room
+put_digits-requires-clause-room c =
+    let a = c.args in
+    rw (c.from-from.ensures, ← contents_digits a.options a.image a.offset a.size c.parts-count.result c.parts-count.ensures) c.requires
+
+pub returns-then-count-le16 : goal.returns-then-count-le16
+returns-then-count-le16 c =
+    let a = c.args in
+    rw (contents_digits a.options a.image a.offset a.size c.parts-count.result c.parts-count.ensures) (rw c.from-from.ensures at c.put_digits.ensures)
+
+pub put_groups-next-requires-clause-small : goal.put_groups-next-requires-clause-small
+put_groups-next-requires-clause-small c =
     let a = c.args in
     let o = a.options in
-    let whole = contents_digits o a.image.bytes.now a.image.len a.offset a.size c.parts-count.result c.parts-count.ensures in
-    let room = joined_room (gap o.given.digits_per_group) (digit a.image.bytes.now a.image.len o.width.bits a.offset) c.loop-k.k c.parts-count.result c.loop-k-test.true in
-    (c.loop-k.invariant.0, omega (arith, c.requires, ap length whole, room, c.loop-k.invariant.1.next, c.loop-k.invariant.2))
+    let n = c.min-whole.result in
+    let k = cut o a.image a.offset a.size _ _ _ n (omega arith) c.from-from.ensures c.parts-count.ensures c.saturating_sub.ensures c.min-whole.ensures in
+    let bits = mul-le-mul {n₁ = n * o.given.digits_per_group} {m₁ = o.width.bits} {n₂ = 2 ^ 32} {m₂ = 5} (omega (arith, k.few, k.short)) o.width.few in
+    let whole = mul-le-mul {n₁ = n} {m₁ = 1} {n₂ = n} {m₂ = o.given.digits_per_group} (omega arith) o.group.0 in
+    (omega (arith, whole, k.few, k.short), omega (arith, c.from-from.ensures, bits, mul_assoc n o.given.digits_per_group o.width.bits))
 
-pub overflow_mul-k : goal.overflow_mul-k
-overflow_mul-k c =
-    let a = c.args in
-    let reach = rw (← c.parts-count.ensures) at (ceil_reach a.size a.options.width.bits) in
-    record { fits = omega (arith, reach, stride c.loop-k.k c.parts-count.result a.options.width.bits c.loop-k-test.true) }
-
-pub plus-requires : goal.plus-requires
-plus-requires c =
-    let a = c.args in
-    let reach = rw (← c.parts-count.ensures) at (ceil_reach a.size a.options.width.bits) in
-    omega (arith, c.from-first.ensures, reach, stride c.loop-k.k c.parts-count.result a.options.width.bits c.loop-k-test.true)
-
-pub put_digit-next-requires : goal.put_digit-next-requires
-put_digit-next-requires c =
+pub put_groups-next-requires-clause-room : goal.put_groups-next-requires-clause-room
+put_groups-next-requires-clause-room c =
     let a = c.args in
     let o = a.options in
-    let reach = rw (← c.parts-count.ensures) at (ceil_reach a.size o.width.bits) in
-    let whole = contents_digits o a.image.bytes.now a.image.len a.offset a.size c.parts-count.result c.parts-count.ensures in
-    let room = joined_room (gap o.given.digits_per_group) (digit a.image.bytes.now a.image.len o.width.bits a.offset) c.loop-k.k c.parts-count.result c.loop-k-test.true in (
-      omega (arith, c.from-first.ensures, c.plus.ensures, reach, stride c.loop-k.k c.parts-count.result o.width.bits c.loop-k-test.true),
-      omega (arith, c.requires, ap length whole, room, c.loop-k.invariant.1.next, c.loop-k.invariant.2, c.put_gap-next.ensures.next, writes_length c.put_gap-next.ensures),
-    )
+    let n = c.min-whole.result in
+    let k = cut o a.image a.offset a.size _ _ _ n (omega arith) c.from-from.ensures c.parts-count.ensures c.saturating_sub.ensures c.min-whole.ensures in
+    let groups = pieces (λ k. spaced_group k (group_at o a.image a.offset k)) n in
+    let rest = digits_from o a.image a.offset (n * o.given.digits_per_group) (c.parts-count.result - n * o.given.digits_per_group) in
+    rw c.from-from.ensures (omega (arith, c.requires, ap length k.parts, length-append groups rest))
 
-pub overflow_add-turn : goal.overflow_add-turn
-overflow_add-turn c =
-    let o = c.args.options in
-    record { fits = omega (arith, c.loop-k.invariant.0, mod-lt c.loop-k.k o.group.0, o.group.1) }
+pub put_digits-requires-2-clause-group : goal.put_digits-requires-2-clause-group
+put_digits-requires-2-clause-group c = mul-mod_left _ _
 
-pub loop-k-preserved : goal.loop-k-preserved
-loop-k-preserved c =
+pub put_digits-requires-2-clause-small : goal.put_digits-requires-2-clause-small
+put_digits-requires-2-clause-small c =
     let a = c.args in
-    let l = c.loop-k in
+    let k = cut a.options a.image a.offset a.size _ _ _ c.min-whole.result (omega arith) c.from-from.ensures c.parts-count.ensures c.saturating_sub.ensures c.min-whole.ensures in
+    (omega (arith, c.from-from.ensures), omega (arith, k.few, k.short))
+
+pub put_digits-requires-2-clause-room : goal.put_digits-requires-2-clause-room
+put_digits-requires-2-clause-room c =
+    let a = c.args in
     let o = a.options in
-    let place = rw c.from-first.ensures at c.plus.ensures in (
-      elim c.if-turn-group.branch [
-        | then-turn-group w ↦ rw w.turn-is (turn_anew o.given.digits_per_group l.k l.turn l.invariant.0 w.if-turn-group.true)
-        | else-turn-group w ↦ rw w.turn-is (turn_next o.given.digits_per_group l.k l.turn l.invariant.0 o.group.0 w.if-turn-group.false)
-      ],
-      rw (joined_next _ _ _) (writes_then l.invariant.1 (writes_then c.put_gap-next.ensures (rw place at c.put_digit-next.ensures))),
-      omega (arith, l.invariant.2, writes_length c.put_gap-next.ensures, writes_length c.put_digit-next.ensures),
-    )
+    let n = c.min-whole.result in
+    let k = cut o a.image a.offset a.size _ _ _ n (omega arith) c.from-from.ensures c.parts-count.ensures c.saturating_sub.ensures c.min-whole.ensures in
+    let rest = digits_from o a.image a.offset (n * o.given.digits_per_group) (c.parts-count.result - n * o.given.digits_per_group) in
+    rw c.from-from.ensures (room_then rest (rw c.from-from.ensures at c.put_groups-next.ensures) (rw k.parts at c.requires))
 
 pub returns : goal.returns
 returns c =
     let a = c.args in
-    let done : c.loop-k.k ≡ c.parts-count.result = omega arith in
-    rw (contents_digits a.options a.image.bytes.now a.image.len a.offset a.size c.parts-count.result c.parts-count.ensures)
-    (rw done at c.loop-k.invariant.1)
+    let k = cut a.options a.image a.offset a.size _ _ _ c.min-whole.result (omega arith) c.from-from.ensures c.parts-count.ensures c.saturating_sub.ensures c.min-whole.ensures in
+    rw k.parts (writes_then (rw c.from-from.ensures at c.put_groups-next.ensures) (rw c.from-from.ensures at c.put_digits-2.ensures))
