@@ -11,17 +11,17 @@ use Rattle.digits.specs.Base.{base_bits}
 use Rattle.digits.proofs.Run.{run_length}
 use Rattle.format_list.specs.declared.shape.ListGroups.{ListGroups}
 use Rattle.format_list.specs.List.{group_bits, group_text, list_text}
-use Rattle.format_list.specs.InnerGroups.{between_of, group_of, count_of, list_of}
+use Rattle.format_list.specs.InnerGroups.{between_of, list_group, count_of, list_of}
 
 -- A group has its digits.
-group_length : (g : ListGroups) (k : ℕ) → length (group_of g k) ≡ g.options.given.digits_per_group
+group_length : (g : ListGroups) (k : ℕ) → length (list_group g k) ≡ g.options.given.digits_per_group
 unfolding group_text
 group_length g k = let o = g.options.given in
     run_length g.good.image.bytes.now g.good.image.len (base_bits o.base) (k * group_bits o) o.digits_per_group
 
 -- A list: the strings before and after, and the groups with those between them.
 pub list_whole : (g : ListGroups)
-    → length (list_of g) ≡ length g.options.strings.before.now + (length (joined (between_of g.options) (group_of g) (count_of g)) + length g.options.strings.after.now)
+    → length (list_of g) ≡ length g.options.strings.before.now + (length (joined (between_of g.options) (list_group g) (count_of g)) + length g.options.strings.after.now)
 unfolding list_text
 list_whole g = simp length-append
 
@@ -33,8 +33,8 @@ list_parts : (g : ListGroups)
     + length g.options.strings.after.now
 list_parts g =
     let n = count_of g in
-    let groups = pieces_length (group_of g) g.options.given.digits_per_group n (λ k h. group_length g k) in
-    omega (arith, list_whole g, joined_length (between_of g.options) (group_of g) n)
+    let groups = pieces_length (list_group g) g.options.given.digits_per_group n (λ k h. group_length g k) in
+    omega (arith, list_whole g, joined_length (between_of g.options) (list_group g) n)
 
 -- The same, as it is measured.
 pub measured : (g : ListGroups) (gaps count : ℕ) → gaps ≡ length (pieces (leading (between_of g.options)) count) → count ≡ count_of g

@@ -17,7 +17,7 @@ use Rattle.digits.specs.Run.{run}
 use Rattle.format_list.specs.declared.shape.ListOptions.{ListOptions}
 use Rattle.format_list.specs.declared.shape.ListGroups.{ListGroups}
 use Rattle.format_list.specs.List.{group_text, between_groups}
-use Rattle.format_list.specs.InnerGroups.{every_of, second_of, between_of, group_of}
+use Rattle.format_list.specs.InnerGroups.{every_of, second_of, between_of, list_group}
 
 -- Before group k.
 pub between_either : (o : ListOptions) (k : ℕ) → between_of o k ≡ cond (eqb (k % every_of o) 0) (second_of o) o.strings.between.now
@@ -57,7 +57,7 @@ pub groups_joined : (g : ListGroups) (n : ℕ)
     → (let o = g.options in
     pieces
     (λ k. leading (between_of o) k ++ run g.good.image.bytes.now g.good.image.len o.width.bits (0 + k * (o.given.digits_per_group * o.width.bits)) o.given.digits_per_group) n
-    ≡ joined (between_of o) (group_of g) n)
+    ≡ joined (between_of o) (list_group g) n)
 unfolding joined group_text
 groups_joined g n = let o = g.options.given in
     rw g.options.bits.0 (pieces_equal _ _ n (λ k h. rw (zero-add (k * (o.digits_per_group * base_bits o.base)))))

@@ -11,10 +11,11 @@ use Rattle.format_list.specs.List.{group_bits, group_text, between_groups, list_
 abbrev pub bad_given : FormatListOptions → ListStrings → Bool
 bad_given o s = bad_list o s.before.now s.after.now s.between.now s.between2.now
 
--- The string before each group whose number every_of divides: the second, or the first where there is no second.
+-- How many groups there are from one second string to the next: 1, where there is none.
 abbrev pub every_of : ListOptions → ℕ
 every_of o = cond (eqb (length o.strings.between2.now) 0) 1 o.given.groups_per_group2
 
+-- What stands before each group whose number every_of divides: the second string, or the first where there is none.
 abbrev pub second_of : ListOptions → List ℕ
 second_of o = cond (eqb (length o.strings.between2.now) 0) o.strings.between.now o.strings.between2.now
 
@@ -22,9 +23,9 @@ second_of o = cond (eqb (length o.strings.between2.now) 0) o.strings.between.now
 abbrev pub between_of : ListOptions → ℕ → List ℕ
 between_of o = between_groups o.given o.strings.between.now o.strings.between2.now
 
--- Group k.
-abbrev pub group_of : ListGroups → ℕ → List ℕ
-group_of g = group_text g.options.given g.good.image.bytes.now g.good.image.len
+-- The digits of group k.
+abbrev pub list_group : ListGroups → ℕ → List ℕ
+list_group g = group_text g.options.given g.good.image.bytes.now g.good.image.len
 
 -- How many groups hold the image.
 abbrev pub count_of : ListGroups → ℕ

@@ -75,7 +75,8 @@ impl<'a> ListOptions<'a> {
         })
     }
 
-    // The string before each group whose number `every` divides: the second, where it is there.
+    // What stands before each group whose number `every` divides: the second string, or the first where
+    // there is none.
     fn second(&self) -> &'a [u8]
         ensures { result.now ≡ second_of self.now }
     {
