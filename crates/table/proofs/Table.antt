@@ -8,7 +8,7 @@ use Rattle.output.specs.Ascii.{ascii}
 use Rattle.output.specs.Pieces.{pieces, leading, joined, every}
 use Rattle.outcome.specs.Outcome.{text, outside, too_long}
 use Rattle.numbers.specs.Digits.{digit_char, byte_text}
-use Rattle.digits.specs.Run.{digit_at, run, short_digit, hex_line}
+use Rattle.digits.specs.Run.{digit_at, run, short_digit, hex_line, line_text}
 use Rattle.image_parts.specs.Parts.{part_bits}
 use Rattle.digits.specs.Base.{base_bits}
 use Rattle.output.specs.Lists.{table as numbered, first}
@@ -19,7 +19,7 @@ use Rattle.hex_records.specs.Plan.{chunk_at, block_plan, hex_plan, too_high}
 use Rattle.hex_records.specs.Text.{bytes_from, total, checksum, record_bytes, hex_bytes, record_text, hex_text}
 use Rattle.intelhex.specs.Hex.{plan_outcome, hex_outcome}
 use Rattle.format_plain.specs.Str.{str_text, str_outcome}
-use Rattle.format_readmem.specs.Readmem.{line_text, line_at, readmem_text, readmem_outcome}
+use Rattle.format_readmem.specs.Readmem.{line_at, readmem_text, readmem_outcome}
 use Rattle.format_list.specs.List.{group_text, between_groups, list_text, bad_list, list_outcome}
 use Rattle.format_logisim.specs.Logisim.{chunk_text, logisim_text, logisim_outcome}
 use Rattle.table.specs.Table.{Row, rows}

@@ -23,12 +23,12 @@ loop-j-preserved c = (
 )
 
 pub put-requires : goal.put-requires
-put-requires c = omega (arith, c.put_digits-next.ensures, byte_length c.args.line.kind (c.read_byte.result))
+put-requires c = omega (arith, c.put_byte_digits-next.ensures, byte_length c.args.line.kind (c.read_byte.result))
 
 pub returns-then-from-line : goal.returns-then-from-line
 returns-then-from-line c =
     let l = c.args.line in
-    rw (whole_byte l.kind l.image.bytes.now l.image.len c.args.from.0 c.if-from-line.true, ← c.read_byte.ensures) (writes_then c.put_digits-next.ensures c.put.ensures)
+    rw (whole_byte l.kind l.image.bytes.now l.image.len c.args.from.0 c.if-from-line.true, ← c.read_byte.ensures) (writes_then c.put_byte_digits-next.ensures c.put.ensures)
 
 pub returns : goal.returns
 unfolding dump_byte
