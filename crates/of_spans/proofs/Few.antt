@@ -2,15 +2,15 @@
 -- Assumes nothing.
 use mathlib.Core.Path.{◌≡◌, refl, ap, subst}
 use mathlib.Core.Bool.{false, cond, ◌||◌}
-use mathlib.Core.List.{List}
+use mathlib.Core.List.{List, map}
 use Prim.Native.Nat.{ℕ}
 use lib.Dec.{ltb}
 use lib.ListN.{length, take}
 use borrow.Author.Tests.{eq-eqb}
 use Rattle.std.proofs.lemmas.List.{length-map}
 use Rattle.bitvec.specs.Size.{bad_size}
-use Rattle.outcome.specs.Outcome.{refused, outside, Exports}
-use Rattle.blocks.specs.Blocks.{refused as None-found, found, blocks_of, blocks_found}
+use Rattle.outcome.specs.Outcome.{refused, outside, Exports, found, unfound}
+use Rattle.blocks.specs.Blocks.{blocks_of, blocks_found}
 use Rattle.hex_records.specs.Plan.{hex_plan}
 use Rattle.intelhex.specs.declared.both.Both.{Both}
 use Rattle.intelhex.specs.Hex.{plan_outcome, hex_outcome}
@@ -28,10 +28,10 @@ pub blocks_few : (xs : List Span) (room room₂ : ℕ)
     → blocks_found (offsets_of (take 4097 xs)) (sizes_of (take 4097 xs)) room room₂ ≡ blocks_found (offsets_of xs) (sizes_of xs) room room₂
 unfolding blocks_found
 blocks_few xs room room₂ =
-    checked_few None-found
+    checked_few unfound
     (λ ys.
     let blocks = blocks_of (offsets_of ys) (sizes_of ys) in
-    cond (ltb room (length blocks) || ltb room₂ (length blocks)) (None-found 8 (length blocks)) (found blocks))
+    cond (ltb room (length blocks) || ltb room₂ (length blocks)) (unfound 8 (length blocks)) (found (map (λ b. b.offset) blocks) (map (λ b. b.size) blocks)))
     xs
 
 pub hex_few : (bytes : List ℕ) (len : ℕ) (xs : List Span) (unit room : ℕ)
