@@ -101,20 +101,11 @@ impl<'a> Image<'a> {
         Some(GoodImage { image: self })
     }
 
-    // Its `count` bytes from byte `first` on, where all of them are whole.
-    #[inline(always)]
-    pub fn whole(self, first: usize, count: usize) -> Option<WholeBytes<'a>>
-        requires { first + count < 2 ^ 61 }
-        ensures { MatchOption result (min (self.entry.len / 8) (length self.entry.bytes.now) < first + count) (λ w. (w.image ≡ self.entry) × (w.first ≡ first) × (w.count ≡ count)) }
+    // How many of its bytes are whole: within the bit length, and lent.
+    pub fn whole_bytes(self) -> usize
+        ensures { result ≡ min (self.entry.len / 8) (length self.entry.bytes.now) }
     {
-        if self.len < (first + count) * 8 || self.bytes.len() < first + count {
-            return None;
-        }
-        Some(WholeBytes {
-            image: self,
-            first,
-            count,
-        })
+        self.bytes.len().min(self.len / 8)
     }
 
     // The bit at `offset`, 0 or 1.

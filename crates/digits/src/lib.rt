@@ -2,7 +2,7 @@
 // hexadecimal whose first digit may be short.
 #![tactic(auto)]
 
-ghost use Rattle.std.specs.Prelude.{MatchOption, ◌≡◌, ◌≢◌, [], ◌∷◌, ◌+◌, ◌*◌, ◌/◌, ◌≤◌, ◌<◌, ◌^◌, min, length};
+ghost use Rattle.std.specs.Prelude.{MatchOption, IfSome, ◌≡◌, ◌≢◌, [], ◌∷◌, ◌+◌, ◌*◌, ◌/◌, ◌≤◌, ◌<◌, ◌^◌, min, length};
 ghost use Rattle.output.specs.Writes.{Writes};
 ghost use Rattle.digits.specs.Base.{base_bits};
 ghost use Rattle.digits.specs.Bytes.{digits_per_byte, digit_bits, byte_digits};
@@ -125,20 +125,35 @@ fn put_whole(out: &mut [u8], at: usize, kind: ByteDigits, bytes: WholeBytes) -> 
     next
 }
 
-// Stores the digits of a run that `count` times eight bits make: bytes of the image, or bits across two of
-// them or behind it.
+// The whole bytes of the image that a run begins with, at most `most`, where it begins with a byte of the
+// image or at its end.
+fn leading_bytes<'a>(digits: DigitRun<'a>, most: usize) -> Option<WholeBytes<'a>>
+    ensures { IfSome result (λ b. (b.image ≡ digits.entry.image) × (b.first * 8 ≡ digits.entry.from.0) × (b.count ≤ most)) }
+{
+    if digits.from.shift() != 0 {
+        return None;
+    }
+    let first = digits.from.byte();
+    let rest = digits.image.whole_bytes().checked_sub(first)?;
+    Some(WholeBytes {
+        image: digits.image,
+        first,
+        count: most.min(rest),
+    })
+}
+
+// Stores the digits of a run that `count` times eight bits make: whole bytes of the image in a loop of
+// their own, and bits across two bytes or behind the image.
 #[tactic(auto, using(crate::proofs::Run::bytes_few))]
 fn put_bytes(out: &mut [u8], at: usize, kind: ByteDigits, digits: DigitRun, count: usize) -> usize
     requires { (digits.width.bits ≡ digit_bits kind) × (count * digits_per_byte kind ≤ digits.count) × (at + digits.count ≤ length out.old) }
     ensures { Writes (run digits.entry.image.bytes.now digits.entry.image.len digits.entry.width.bits digits.entry.from.0 (count * digits_per_byte kind)) out.old at out.new result }
 {
-    if digits.from.shift() == 0 {
-        if let Some(bytes) = digits.image.whole(digits.from.byte(), count) {
-            return put_whole(out, at, kind, bytes);
-        }
-    }
-    let mut next = at;
-    for k in 0..count {
+    let (first, mut next) = match leading_bytes(digits, count) {
+        Some(bytes) => (bytes.count, put_whole(out, at, kind, bytes)),
+        None => (0, at),
+    };
+    for k in first..count {
         let byte = digits.image.read_byte(digits.from.plus(k * 8));
         next = put_byte_digits(out, next, kind, byte);
     }

@@ -9,5 +9,5 @@ use Rattle.digits.proofs.put_bytes.Given as goal
 abbrev pub invariant-loop-k : goal.invariant-loop-k
 invariant-loop-k l = (l.k ≤ l.count)
     × (l.next ≡ l.at + l.k * digits_per_byte l.kind)
-    × Writes (run l.digits.image.bytes.now l.digits.image.len l.digits.width.bits l.digits.from.0 (l.k * digits_per_byte l.kind)) l.initial.out l.at l.out l.next
-    × (length l.out ≡ length l.initial.out)
+    × Writes (run l.digits.image.bytes.now l.digits.image.len l.digits.width.bits l.digits.from.0 (l.k * digits_per_byte l.kind)) l.fn.out l.at l.out l.next
+    × (length l.out ≡ length l.fn.out)
