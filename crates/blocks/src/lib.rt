@@ -94,9 +94,10 @@ fn find_within<const N: usize>(
     requires { (length spans.list.offsets.now ≤ N) × (N ≤ 4096) }
     ensures { Finds (blocks_found spans.entry.list.offsets.now spans.entry.list.sizes.now (length block_offsets.old) (length block_sizes.old)) result block_offsets.old block_offsets.new block_sizes.old block_sizes.new }
 {
+    let offsets = spans.list.offsets;
     let mut places = [0u32; N];
-    ordering::order_within::<N>(spans.list.offsets, &mut places);
-    let places = &places[..spans.list.len()];
+    ordering::order_within::<N>(offsets, &mut places);
+    let places = &places[..offsets.len()];
     let count = close_all(spans, places, &mut [], &mut []);
     if block_offsets.len() < count || block_sizes.len() < count {
         return Err(Refusal::NoRoom(count));

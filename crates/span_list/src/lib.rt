@@ -1,7 +1,7 @@
 // The list of spans that is lent, as two slices of numbers, and its range: refusal 3 of document 01.
 #![tactic(auto)]
 
-ghost use Rattle.std.specs.Prelude.{◌≡◌, ◌≢◌, false, ◌≤◌, ◌<◌, length, MatchOption, MatchResult};
+ghost use Rattle.std.specs.Prelude.{◌≡◌, false, ◌≤◌, ◌<◌, length, MatchOption, MatchResult};
 ghost use Rattle.span_list.specs.Range.{long_list, bad_span, fault_at, IsCause};
 
 use bitvec::MAX_BITS;
@@ -21,25 +21,6 @@ pub struct SpanList<'a> {
     pub ghost same_length: { length sizes.now ≡ length offsets.now },
 }
 
-impl<'a> SpanList<'a> {
-    // The list of two slices, where they are as long as each other.
-    pub fn new(offsets: &'a [u32], sizes: &'a [u32]) -> Option<SpanList<'a>>
-        ensures { MatchOption result (length sizes.now ≢ length offsets.now) (λ s. (s.offsets.now ≡ offsets.now) × (s.sizes.now ≡ sizes.now)) }
-    {
-        if sizes.len() != offsets.len() {
-            return None;
-        }
-        Some(SpanList { offsets, sizes })
-    }
-
-    // How many spans there are.
-    pub fn len(self) -> usize
-        ensures { result ≡ length self.entry.offsets.now }
-    {
-        self.offsets.len()
-    }
-}
-
 // A list in its range: at most 4,096 spans, none of them bad.
 #[derive(Clone, Copy)]
 pub struct GoodSpans<'a> {
@@ -56,10 +37,10 @@ impl<'a> GoodSpans<'a> {
     pub fn new(offsets: &'a [u32], sizes: &'a [u32]) -> Result<GoodSpans<'a>, Refusal>
         ensures { MatchResult result (λ s. (s.list.offsets.now ≡ offsets.now) × (s.list.sizes.now ≡ sizes.now)) (λ e. IsCause offsets.now sizes.now e) }
     {
-        let list = match SpanList::new(offsets, sizes) {
-            Some(list) if list.len() <= MAX_SPANS => list,
-            _ => return Err(Refusal::SpanRange(MAX_SPANS)),
-        };
+        if MAX_SPANS < offsets.len() || offsets.len() != sizes.len() {
+            return Err(Refusal::SpanRange(MAX_SPANS));
+        }
+        let list = SpanList { offsets, sizes };
         match fault_at(list) {
             Some(place) => Err(Refusal::SpanRange(place)),
             None => Ok(GoodSpans { list }),

@@ -1,6 +1,6 @@
 -- `blocks::find_within` meets its contract: the front of the places is the order, in which the blocks are counted and stored.
 -- Assumes nothing.
-use Rattle.std.proofs.Common.{◌≡◌, ℕ, ◌≤◌, List, length, take, replicate, arith, lt-ltb, le-ltb}
+use Rattle.std.proofs.Common.{◌≡◌, ℕ, ◌≤◌, List, length, take, replicate, sym, arith, lt-ltb, le-ltb}
 use Rattle.std.proofs.lemmas.List.{length-replicate}
 use Rattle.std.proofs.lemmas.List.Edits.{sets}
 use Rattle.ordering.specs.Order.{in_order}
@@ -10,13 +10,13 @@ use Rattle.blocks.proofs.Finding.{finds_blocks, finds_no_room}
 use Rattle.blocks.proofs.find_within.Goals as goal
 use Rattle.blocks.proofs.find_within.Goals.{then-block_offsets-count-via-then-block_offsets-count, then-block_offsets-count-via-else-block_offsets-count+then-block_sizes-count}
 
-places_front : (offsets places : List ℕ) (n m : ℕ) → n ≡ length offsets → n ≤ m → places ≡ sets (replicate m 0) 0 (in_order offsets) → take n places ≡ in_order offsets
-places_front offsets places n m e h s =
+places_front : (offsets places : List ℕ) (n : ℕ) → length offsets ≤ n → places ≡ sets (replicate n 0) 0 (in_order offsets) → take (length offsets) places ≡ in_order offsets
+places_front offsets places n h s =
     let size = in_order_length offsets in
-    rw s (sets_front (replicate m 0) (in_order offsets) n (omega (arith, e, h, size, length-replicate {A = ℕ} m 0)) (omega (arith, e, size)))
+    rw s (sets_front (replicate n 0) (in_order offsets) (length offsets) (omega (arith, h, size, length-replicate {A = ℕ} n 0)) (sym size))
 
 pub close_all-count-requires : goal.close_all-count-requires
-close_all-count-requires g c = places_front c.args.spans.list.offsets.now c.order_within.new.places c.len.result g.row.N c.len.ensures (omega arith) c.order_within.ensures
+close_all-count-requires g c = places_front c.args.spans.list.offsets.now c.order_within.new.places g.row.N c.requires.0 c.order_within.ensures
 
 pub returns-then-block_offsets-count : goal.returns-then-block_offsets-count
 returns-then-block_offsets-count g c =
@@ -30,7 +30,7 @@ returns-then-block_offsets-count g c =
     ]
 
 pub close_all-requires : goal.close_all-requires
-close_all-requires g c = places_front c.args.spans.list.offsets.now c.order_within.new.places c.len.result g.row.N c.len.ensures (omega arith) c.order_within.ensures
+close_all-requires g c = places_front c.args.spans.list.offsets.now c.order_within.new.places g.row.N c.requires.0 c.order_within.ensures
 
 pub returns : goal.returns
 returns g c =
