@@ -18,7 +18,7 @@ pub fn shown(options: FormatAnnotatedOptions, size: u32) -> bool
 }
 
 // Whether a location is in none of the texts.
-fn outside(sources: Sources, location: Location) -> bool
+fn in_no_text(sources: Sources, location: Location) -> bool
     ensures { result ≡ (ltb 1 location.file || (ltb location.end location.start || ltb (length (source sources.entry.firmware.now sources.entry.protocol.now location.file)) location.end)) }
 {
     1 < location.file
@@ -27,12 +27,12 @@ fn outside(sources: Sources, location: Location) -> bool
 }
 
 // The excerpt at a location, or none where no text has it.
-pub fn excerpt<'a>(sources: Sources<'a>, location: Option<Location>) -> Option<&'a [u8]>
+pub fn excerpt_at<'a>(sources: Sources<'a>, location: Option<Location>) -> Option<&'a [u8]>
     ensures { let f = sources.entry.firmware.now in let p = sources.entry.protocol.now in (file start end : ℕ) → location ≡ location_from file start end
         → MatchOption result (misplaced f p file start end ≡ true) (λ t. (misplaced f p file start end ≡ false) × (t.now ≡ excerpt_of f p file start end)) }
 {
     let location = location?;
-    if outside(sources, location) {
+    if in_no_text(sources, location) {
         return None;
     }
     let Location { file, start, end } = location;
@@ -49,7 +49,8 @@ fn faulty(options: FormatAnnotatedOptions, sources: Sources, span: ListedSpan) -
         location,
         ..
     } = span;
-    shown(options, size) && (excerpt(sources, location).is_none() || offset.is_none() && size != 0)
+    shown(options, size)
+        && (excerpt_at(sources, location).is_none() || offset.is_none() && size != 0)
 }
 
 // The place of the first span that is shown and cannot be.

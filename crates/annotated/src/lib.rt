@@ -19,7 +19,7 @@ mod faults;
 mod listed;
 
 // The listing of spans in their range, or refusal 6, 7 or 8.
-fn format_spans(
+fn format_listed(
     image: Image,
     options: ListingOptions,
     spans: ListedSpans,
@@ -64,5 +64,5 @@ pub fn format_annotated(
     // That the list is in its range is all that is used of it, and by the proof alone: its numbers are in
     // the columns, whose lengths it compares once more.
     let list = GoodSpans::new(spans.columns.offsets, spans.columns.sizes)?;
-    format_spans(image.image, options, spans, sources, out)
+    format_listed(image.image, options, spans, sources, out)
 }

@@ -9,7 +9,7 @@ ghost use Rattle.listing.specs.Listing.{lent, Narrow, widths_of};
 ghost use Rattle.listing.specs.InnerLine.{line_of};
 ghost use Rattle.annotated.specs.Faults.{span_fault};
 
-use crate::faults::{excerpt, shown};
+use crate::faults::{excerpt_at, shown};
 use bitvec::Image;
 use listing::{Layout, ListedSpans, SpanLine};
 use outcome::{Export, Refusal};
@@ -45,7 +45,7 @@ impl<'a> Listed<'a> {
         if !shown(self.layout.options.given, span.size) {
             return None;
         }
-        let excerpt = excerpt(self.sources, span.location)?;
+        let excerpt = excerpt_at(self.sources, span.location)?;
         Some(SpanLine {
             image: self.image,
             layout: self.layout,
@@ -55,7 +55,7 @@ impl<'a> Listed<'a> {
     }
 
     // The length of the line of the span at a place, 0 where it is hidden.
-    fn line_length(self, place: usize) -> usize
+    fn shown_length(self, place: usize) -> usize
         requires { place < length self.spans.columns.offsets.now }
         ensures { (result ≡ length (shown_line self.entry place)) × (result < 2 ^ 35) }
     {
@@ -66,7 +66,7 @@ impl<'a> Listed<'a> {
     }
 
     // Stores the line of the span at a place, and nothing where it is hidden.
-    fn put_line(self, out: &mut [u8], at: usize, place: usize) -> usize
+    fn put_shown(self, out: &mut [u8], at: usize, place: usize) -> usize
         requires place { place < length self.spans.columns.offsets.now }
         requires room { at + length (shown_line self place) ≤ length out.old }
         ensures { Writes (shown_line self.entry place) out.old at out.new result }
@@ -84,20 +84,20 @@ impl<'a> Listed<'a> {
     {
         let mut needed = 0;
         for &place in places {
-            needed += self.line_length(place as usize);
+            needed += self.shown_length(place as usize);
         }
         needed
     }
 
     // Stores the lines of the spans, whose places in order are lent.
-    fn put_lines(self, out: &mut [u8], at: usize, places: &[u32]) -> usize
+    fn put_shown_lines(self, out: &mut [u8], at: usize, places: &[u32]) -> usize
         requires places { places.now ≡ in_order self.spans.columns.offsets.now }
         requires room { at + length (shown_lines self) ≤ length out.old }
         ensures { Writes (shown_lines self.entry) out.old at out.new result }
     {
         let mut next = at;
         for &place in places {
-            next = self.put_line(out, next, place as usize);
+            next = self.put_shown(out, next, place as usize);
         }
         next
     }
@@ -113,7 +113,7 @@ impl<'a> Listed<'a> {
             return Err(Refusal::NoRoom(needed));
         }
         let next = self.layout.put_heading(out);
-        Ok(self.put_lines(out, next, places))
+        Ok(self.put_shown_lines(out, next, places))
     }
 
     // The listing, or refusal 8.

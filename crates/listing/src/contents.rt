@@ -13,7 +13,13 @@ use digit_groups::{DigitGroups, PutGroup, put_groups, put_part};
 use numbers::DigitWidth;
 
 // Stores the digit of `width` from `from` on, or a point where one of its bits is past the image's end.
-fn put_digit(out: &mut [u8], at: usize, image: Image, width: DigitWidth, from: BitOffset) -> usize
+fn put_content_digit(
+    out: &mut [u8],
+    at: usize,
+    image: Image,
+    width: DigitWidth,
+    from: BitOffset,
+) -> usize
     requires { (from.0 + width.bits < 2 ^ 64) × (at < length out.old) }
     ensures { Writes (content_digit image.entry.bytes.now image.entry.len width.bits from.0 ∷ []) out.old at out.new result }
 {
@@ -36,7 +42,7 @@ fn put_gap(out: &mut [u8], at: usize, group: usize, k: usize, turn: usize) -> us
 }
 
 // Stores `count` digits of a span that starts at `from`, from digit `first` on, which begins a group.
-fn put_digits(
+fn put_content_digits(
     out: &mut [u8],
     at: usize,
     image: Image,
@@ -58,7 +64,7 @@ fn put_digits(
     for j in 0..count {
         let k = first + j;
         next = put_gap(out, next, group, k, turn);
-        next = put_digit(out, next, image, width, from.plus(k * width.bits));
+        next = put_content_digit(out, next, image, width, from.plus(k * width.bits));
         turn += 1;
         if turn == group {
             turn = 0;
@@ -102,7 +108,7 @@ pub fn put_contents(
     let from = BitOffset::from(offset);
     let count = bitvec::parts(size as usize, width.bits);
     if count <= 16 {
-        return put_digits(out, at, image, options, from, 0, count);
+        return put_content_digits(out, at, image, options, from, 0, count);
     }
     let inside = image.len.saturating_sub(from.0) / (group * width.bits);
     let whole = inside.min(count / group);
@@ -114,7 +120,7 @@ pub fn put_contents(
     };
     let next = put_groups(out, at, groups, &SpacedGroups, whole);
     let done = whole * group;
-    put_digits(out, next, image, options, from, done, count - done)
+    put_content_digits(out, next, image, options, from, done, count - done)
 }
 
 // The length of the contents of a span.

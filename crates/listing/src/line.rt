@@ -85,7 +85,7 @@ impl<'a> SpanLine<'a> {
 
     // Stores the contents of the span at the left of their column. Those of a span without an offset are
     // defined too, at the number of none.
-    fn put_column(self, out: &mut [u8], at: usize) -> usize
+    fn put_content(self, out: &mut [u8], at: usize) -> usize
         requires { at + length (column_of self) ≤ length out.old }
         ensures { Writes (column_of self.entry) out.old at out.new result }
     {
@@ -120,7 +120,7 @@ impl<'a> SpanLine<'a> {
         next = output::put_all(out, next, b" | ");
         next = self.put_address(out, next);
         next = output::put_all(out, next, b" | ");
-        next = self.put_column(out, next);
+        next = self.put_content(out, next);
         next = output::put_all(out, next, b" ; ");
         next = output::put_all(out, next, self.excerpt);
         output::put(out, next, b'\n')

@@ -39,8 +39,8 @@ returns-in_err-list c =
     (rw (rw columns at (list_refused good c.in_ok-spans.spans r c.in_err-list.ensures), same)
     record { answered = refl; buffer = refl })
 
-pub format_spans-requires : goal.format_spans-requires
-format_spans-requires c = rw (← c.in_ok-list.ensures.0) c.in_ok-list.list.few
+pub format_listed-requires : goal.format_listed-requires
+format_listed-requires c = rw (← c.in_ok-list.ensures.0) c.in_ok-list.list.few
 
 pub returns : goal.returns
 unfolding annotated_outcome
@@ -57,4 +57,4 @@ returns c =
     let passed = list_good good c.in_ok-spans.spans (rw (of.0, of.1) at l.short) (rw (of.0, of.1) at l.good) in
     simp (size, options)
     (rw (rw columns at passed)
-    (rw (image, given, columns) at c.format_spans.ensures))
+    (rw (image, given, columns) at c.format_listed.ensures))

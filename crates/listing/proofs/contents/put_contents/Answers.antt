@@ -36,15 +36,15 @@ cut o image offset size from count rest n s d e f h =
       parts = contents_parts o image offset size count n e least inside;
     }
 
-pub put_digits-requires-clause-room : goal.put_digits-requires-clause-room
-put_digits-requires-clause-room c =
+pub put_content_digits-requires-clause-room : goal.put_content_digits-requires-clause-room
+put_content_digits-requires-clause-room c =
     let a = c.args in
     rw (c.from-from.ensures, ← contents_digits a.options a.image a.offset a.size c.parts-count.result c.parts-count.ensures) c.requires
 
 pub returns-then-count-le16 : goal.returns-then-count-le16
 returns-then-count-le16 c =
     let a = c.args in
-    rw (contents_digits a.options a.image a.offset a.size c.parts-count.result c.parts-count.ensures) (rw c.from-from.ensures at c.put_digits.ensures)
+    rw (contents_digits a.options a.image a.offset a.size c.parts-count.result c.parts-count.ensures) (rw c.from-from.ensures at c.put_content_digits.ensures)
 
 pub put_groups-next-requires-clause-small : goal.put_groups-next-requires-clause-small
 put_groups-next-requires-clause-small c =
@@ -66,17 +66,17 @@ put_groups-next-requires-clause-room c =
     let rest = digits_from o a.image a.offset (n * o.given.digits_per_group) (c.parts-count.result - n * o.given.digits_per_group) in
     rw c.from-from.ensures (omega (arith, c.requires, ap length k.parts, length-append groups rest))
 
-pub put_digits-requires-2-clause-group : goal.put_digits-requires-2-clause-group
-put_digits-requires-2-clause-group c = mul-mod_left _ _
+pub put_content_digits-requires-2-clause-group : goal.put_content_digits-requires-2-clause-group
+put_content_digits-requires-2-clause-group c = mul-mod_left _ _
 
-pub put_digits-requires-2-clause-small : goal.put_digits-requires-2-clause-small
-put_digits-requires-2-clause-small c =
+pub put_content_digits-requires-2-clause-small : goal.put_content_digits-requires-2-clause-small
+put_content_digits-requires-2-clause-small c =
     let a = c.args in
     let k = cut a.options a.image a.offset a.size _ _ _ c.min-whole.result (omega arith) c.from-from.ensures c.parts-count.ensures c.saturating_sub.ensures c.min-whole.ensures in
     (omega (arith, c.from-from.ensures), omega (arith, k.few, k.short))
 
-pub put_digits-requires-2-clause-room : goal.put_digits-requires-2-clause-room
-put_digits-requires-2-clause-room c =
+pub put_content_digits-requires-2-clause-room : goal.put_content_digits-requires-2-clause-room
+put_content_digits-requires-2-clause-room c =
     let a = c.args in
     let o = a.options in
     let n = c.min-whole.result in
@@ -88,4 +88,4 @@ pub returns : goal.returns
 returns c =
     let a = c.args in
     let k = cut a.options a.image a.offset a.size _ _ _ c.min-whole.result (omega arith) c.from-from.ensures c.parts-count.ensures c.saturating_sub.ensures c.min-whole.ensures in
-    rw k.parts (writes_then (rw c.from-from.ensures at c.put_groups-next.ensures) (rw c.from-from.ensures at c.put_digits-2.ensures))
+    rw k.parts (writes_then (rw c.from-from.ensures at c.put_groups-next.ensures) (rw c.from-from.ensures at c.put_content_digits-2.ensures))

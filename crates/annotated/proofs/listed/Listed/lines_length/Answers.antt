@@ -16,21 +16,21 @@ use Rattle.annotated.proofs.listed.Listed.lines_length.Goals as goal
 pub loop-place-init : goal.loop-place-init
 loop-place-init c = (sym (ap length (pieces_none _)), omega arith)
 
-pub line_length-needed-requires : goal.line_length-needed-requires
-line_length-needed-requires c =
+pub shown_length-needed-requires : goal.shown_length-needed-requires
+shown_length-needed-requires c =
     let offsets = c.args.self.spans.columns.offsets.now in
     each_get (λ p. p < length offsets) c.args.places.now c.loop-place.place-index 0 (rw c.requires (in_order_below offsets)) c.loop-place-test.true
 
 pub overflow_add-needed : goal.overflow_add-needed
 overflow_add-needed c =
     let few = in_order_length c.args.self.spans.columns.offsets.now in
-    record { fits = omega (arith, c.loop-place.invariant.1, c.line_length-needed.ensures.1, c.loop-place-test.true, ap length c.requires, few, c.args.self.few) }
+    record { fits = omega (arith, c.loop-place.invariant.1, c.shown_length-needed.ensures.1, c.loop-place-test.true, ap length c.requires, few, c.args.self.few) }
 
 pub loop-place-preserved : goal.loop-place-preserved
 loop-place-preserved c =
     let l = c.loop-place in
     let k = l.place-index in
-    let line = c.line_length-needed.ensures in
+    let line = c.shown_length-needed.ensures in
     let f : ℕ → List ℕ = λ j. shown_line c.args.self (get_or c.args.places.now j 0) in (
       omega (arith, l.invariant.0, line.0, ap length (pieces_next f k), length-append (pieces f k) (f k)),
       omega (arith, l.invariant.1, line.1),

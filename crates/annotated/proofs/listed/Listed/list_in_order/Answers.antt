@@ -35,4 +35,4 @@ pub returns : goal.returns
 returns c =
     let a = c.args.self in
     let enough : length (shown_text a) ≤ length c.args.out.now = omega (arith, made_length a, c.lines_length-lines.ensures.0, c.heading_length.ensures.0) in
-    exports_text {t = shown_text a} enough (rw (made a) (writes_then c.put_heading-next.ensures c.put_lines.ensures))
+    exports_text {t = shown_text a} enough (rw (made a) (writes_then c.put_heading-next.ensures c.put_shown_lines.ensures))

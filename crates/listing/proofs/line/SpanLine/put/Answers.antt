@@ -29,8 +29,8 @@ put_address-next-requires c = omega (arith, c.requires, parts c.args.self)
 pub put_all-next-requires-2 : goal.put_all-next-requires-2
 put_all-next-requires-2 c = omega (arith, c.requires, parts c.args.self)
 
-pub put_column-next-requires : goal.put_column-next-requires
-put_column-next-requires c = omega (arith, c.requires, parts c.args.self)
+pub put_content-next-requires : goal.put_content-next-requires
+put_content-next-requires c = omega (arith, c.requires, parts c.args.self)
 
 pub put_all-next-requires-3 : goal.put_all-next-requires-3
 put_all-next-requires-3 c = omega (arith, c.requires, parts c.args.self)
@@ -48,7 +48,7 @@ returns c =
     (writes_then c.put_all-next.ensures
     (writes_then c.put_address-next.ensures
     (writes_then c.put_all-next-2.ensures
-    (writes_then c.put_column-next.ensures
+    (writes_then c.put_content-next.ensures
     (writes_then c.put_all-next-3.ensures
     (writes_then c.put_all-next-4.ensures
     c.put.ensures))))))

@@ -1,4 +1,4 @@
--- `annotated::listed::Listed::put_lines` meets its contract: after k turns k lines are written.
+-- `annotated::listed::Listed::put_shown_lines` meets its contract: after k turns k lines are written.
 -- Assumes nothing.
 use mathlib.Core.Path.{◌≡◌, refl, ap}
 use mathlib.Core.List.{List, flat_map}
@@ -11,13 +11,13 @@ use Rattle.output.proofs.Lists.{each_get}
 use Rattle.output.proofs.Flat.{flat_places}
 use Rattle.ordering.proofs.Keys.{in_order_below}
 use Rattle.annotated.specs.InnerListed.{shown_line}
-use Rattle.annotated.proofs.listed.Listed.put_lines.Goals as goal
+use Rattle.annotated.proofs.listed.Listed.put_shown_lines.Goals as goal
 
 pub loop-place-init : goal.loop-place-init
 loop-place-init c = (rw pieces_none (writes_nothing _ _), refl)
 
-pub put_line-next-requires : goal.put_line-next-requires
-put_line-next-requires c =
+pub put_shown-next-requires : goal.put_shown-next-requires
+put_shown-next-requires c =
     let a = c.args in
     let l = c.loop-place in
     let offsets = a.self.spans.columns.offsets.now in
@@ -32,8 +32,8 @@ put_line-next-requires c =
 pub loop-place-preserved : goal.loop-place-preserved
 loop-place-preserved c =
     let l = c.loop-place in (
-      rw pieces_next (writes_then l.invariant.0 c.put_line-next.ensures),
-      omega (arith, l.invariant.1, writes_length c.put_line-next.ensures),
+      rw pieces_next (writes_then l.invariant.0 c.put_shown-next.ensures),
+      omega (arith, l.invariant.1, writes_length c.put_shown-next.ensures),
     )
 
 pub returns : goal.returns

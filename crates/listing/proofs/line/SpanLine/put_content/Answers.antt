@@ -1,7 +1,7 @@
--- `listing::line::SpanLine::put_column` meets its contract: the contents, and then the fill.
+-- `listing::line::SpanLine::put_content` meets its contract: the contents, and then the fill.
 -- Assumes nothing.
 use Rattle.output.proofs.Writes.{writes_then}
-use Rattle.listing.proofs.line.SpanLine.put_column.Goals as goal
+use Rattle.listing.proofs.line.SpanLine.put_content.Goals as goal
 
 pub returns : goal.returns
 returns c =

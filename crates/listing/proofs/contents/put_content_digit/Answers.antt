@@ -1,8 +1,8 @@
--- `listing::contents::put_digit` meets its contract: a point or the digit.
+-- `listing::contents::put_content_digit` meets its contract: a point or the digit.
 -- Assumes nothing.
 use borrow.Author.Tests.{lt-ltb, le-ltb}
 use Rattle.listing.specs.Listing.{content_digit}
-use Rattle.listing.proofs.contents.put_digit.Goals as goal
+use Rattle.listing.proofs.contents.put_content_digit.Goals as goal
 
 pub returns-then-image-from : goal.returns-then-image-from
 unfolding content_digit

@@ -3,7 +3,7 @@ use Prim.Native.Nat.{◌+◌, ◌%◌}
 use lib.ListN.{length}
 use Rattle.output.specs.Writes.{Writes}
 use Rattle.listing.specs.InnerContents.{digits_from}
-use Rattle.listing.proofs.contents.put_digits.Given as goal
+use Rattle.listing.proofs.contents.put_content_digits.Given as goal
 
 abbrev pub invariant-loop-j : goal.invariant-loop-j
 invariant-loop-j l = (l.turn ≡ (l.first + l.j) % l.group)

@@ -1,4 +1,4 @@
--- `annotated::format_spans` meets its contract: the refusals in their order, and then the listing.
+-- `annotated::format_listed` meets its contract: the refusals in their order, and then the listing.
 -- Assumes nothing.
 use mathlib.Core.Path.{refl, sym, ◌∙◌}
 use native.Mathlib.Omega.{arith}
@@ -6,8 +6,8 @@ use lib.ListN.{length}
 use borrow.Author.Tests.{lt-ltb, le-ltb}
 use Rattle.sources.proofs.Files.{short_text}
 use Rattle.annotated.specs.Annotated.{listed_outcome}
-use Rattle.annotated.proofs.format_spans.Goals.{then-bad_text-via-then-bad_text, then-bad_text-via-else-bad_text+then-bad_text-2}
-use Rattle.annotated.proofs.format_spans.Goals as goal
+use Rattle.annotated.proofs.format_listed.Goals.{then-bad_text-via-then-bad_text, then-bad_text-via-else-bad_text+then-bad_text-2}
+use Rattle.annotated.proofs.format_listed.Goals as goal
 
 pub returns-then-bad_text : goal.returns-then-bad_text
 unfolding listed_outcome

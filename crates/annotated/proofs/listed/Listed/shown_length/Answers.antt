@@ -1,9 +1,9 @@
--- `annotated::listed::Listed::line_length` meets its contract: that of the line, or 0.
+-- `annotated::listed::Listed::shown_length` meets its contract: that of the line, or 0.
 -- Assumes nothing.
 use mathlib.Core.Path.{sym, ap, ◌∙◌}
 use native.Mathlib.Omega.{arith}
 use lib.ListN.{length}
-use Rattle.annotated.proofs.listed.Listed.line_length.Goals as goal
+use Rattle.annotated.proofs.listed.Listed.shown_length.Goals as goal
 
 pub returns-in-Some : goal.returns-in-Some
 returns-in-Some c = (c.length.ensures.0 ∙ ap length c.in-Some.ensures.0, c.length.ensures.1)

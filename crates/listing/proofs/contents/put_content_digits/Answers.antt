@@ -1,4 +1,4 @@
--- `listing::contents::put_digits` meets its contract: after j turns j digits are written.
+-- `listing::contents::put_content_digits` meets its contract: after j turns j digits are written.
 -- Assumes nothing.
 use mathlib.Core.Path.{◌≡◌, refl, sym}
 use mathlib.Core.List.{[], ◌∷◌}
@@ -14,8 +14,8 @@ use Rattle.bitvec.specs.declared.Image.{Image}
 use Rattle.listing.specs.Listing.{content_digit}
 use Rattle.listing.specs.InnerContents.{gap, spaced_digit, digits_from}
 use Rattle.listing.proofs.Digits.{turn_next, turn_anew}
-use Rattle.listing.proofs.contents.put_digits.Goals.{then-turn-group, else-turn-group}
-use Rattle.listing.proofs.contents.put_digits.Goals as goal
+use Rattle.listing.proofs.contents.put_content_digits.Goals.{then-turn-group, else-turn-group}
+use Rattle.listing.proofs.contents.put_content_digits.Goals as goal
 
 -- the bits before a digit are few
 near : (o : ListingOptions) (k : ℕ) → k ≤ 2 ^ 32 → k * o.width.bits ≤ 2 ^ 32 * 5
@@ -37,8 +37,8 @@ put_gap-next-requires c =
     let l = c.loop-j in
     (l.invariant.0, omega (arith, room a.options a.image a.from.0 a.first a.count l.j c.loop-j-test.true, c.requires.room, l.invariant.1.next, l.invariant.2))
 
-pub put_digit-next-requires : goal.put_digit-next-requires
-put_digit-next-requires c =
+pub put_content_digit-next-requires : goal.put_content_digit-next-requires
+put_content_digit-next-requires c =
     let a = c.args in
     let l = c.loop-j in
     let o = a.options in (
@@ -55,6 +55,6 @@ loop-j-preserved c =
         | then-turn-group w ↦ rw (w.turn-is, next) (turn_anew o.given.digits_per_group (c.args.first + l.j) l.turn l.invariant.0 w.if-turn-group.true)
         | else-turn-group w ↦ rw (w.turn-is, next) (turn_next o.given.digits_per_group (c.args.first + l.j) l.turn l.invariant.0 o.group.0 w.if-turn-group.false)
       ],
-      rw pieces_next (writes_then l.invariant.1 (writes_then c.put_gap-next.ensures (rw c.plus.ensures at c.put_digit-next.ensures))),
-      omega (arith, l.invariant.2, writes_length c.put_gap-next.ensures, writes_length c.put_digit-next.ensures),
+      rw pieces_next (writes_then l.invariant.1 (writes_then c.put_gap-next.ensures (rw c.plus.ensures at c.put_content_digit-next.ensures))),
+      omega (arith, l.invariant.2, writes_length c.put_gap-next.ensures, writes_length c.put_content_digit-next.ensures),
     )

@@ -1,7 +1,7 @@
--- `annotated::listed::Listed::put_line` meets its contract: the line, or nothing.
+-- `annotated::listed::Listed::put_shown` meets its contract: the line, or nothing.
 -- Assumes nothing.
 use Rattle.output.proofs.Writes.{writes_nothing}
-use Rattle.annotated.proofs.listed.Listed.put_line.Goals as goal
+use Rattle.annotated.proofs.listed.Listed.put_shown.Goals as goal
 
 pub put-requires : goal.put-requires
 put-requires c = rw c.in-Some.ensures.0 c.requires.room
