@@ -84,7 +84,8 @@ fn close_all(
     close(block_offsets, block_sizes, count, block)
 }
 
-// The blocks of at most N good spans, as `get_blocks` gives them: those that are counted are stored nowhere.
+// The blocks of at most N good spans, as `get_blocks` gives them. They are counted, stored nowhere, where a
+// slice has no place for each span, so that its room may be short; no list has more blocks than spans.
 // N is bounded as in `ordering::order_within`.
 fn find_within<const N: usize>(
     spans: GoodSpans,
@@ -94,13 +95,15 @@ fn find_within<const N: usize>(
     requires { (length spans.list.offsets.now ≤ N) × (N ≤ 4096) }
     ensures { Finds (blocks_found spans.entry.list.offsets.now spans.entry.list.sizes.now (length block_offsets.old) (length block_sizes.old)) result block_offsets.old block_offsets.new block_sizes.old block_sizes.new }
 {
-    let offsets = spans.list.offsets;
+    let n = spans.list.offsets.len();
     let mut places = [0u32; N];
-    ordering::order_within::<N>(offsets, &mut places);
-    let places = &places[..offsets.len()];
-    let count = close_all(spans, places, &mut [], &mut []);
-    if block_offsets.len() < count || block_sizes.len() < count {
-        return Err(Refusal::NoRoom(count));
+    ordering::order_within::<N>(spans.list.offsets, &mut places);
+    let places = &places[..n];
+    if block_offsets.len() < n || block_sizes.len() < n {
+        let count = close_all(spans, places, &mut [], &mut []);
+        if block_offsets.len() < count || block_sizes.len() < count {
+            return Err(Refusal::NoRoom(count));
+        }
     }
     Ok(close_all(spans, places, block_offsets, block_sizes))
 }

@@ -6,9 +6,10 @@ use Rattle.std.proofs.lemmas.List.Edits.{sets}
 use Rattle.ordering.specs.Order.{in_order}
 use Rattle.output.proofs.Lists.{sets_front}
 use Rattle.ordering.proofs.Keys.{in_order_length}
+use Rattle.blocks.proofs.Running.{blocks_few}
 use Rattle.blocks.proofs.Finding.{finds_blocks, finds_no_room}
 use Rattle.blocks.proofs.find_within.Goals as goal
-use Rattle.blocks.proofs.find_within.Goals.{then-block_offsets-count-via-then-block_offsets-count, then-block_offsets-count-via-else-block_offsets-count+then-block_sizes-count}
+use Rattle.blocks.proofs.find_within.Goals.{then-block_offsets-count-via-then-block_offsets-count, then-block_offsets-count-via-else-block_offsets-count+then-block_sizes-count, then-block_offsets-n+else-block_offsets-count+else-block_sizes-count, else-block_offsets-n+else-block_sizes-n}
 
 places_front : (offsets places : List ℕ) (n : ℕ) → length offsets ≤ n → places ≡ sets (replicate n 0) 0 (in_order offsets) → take (length offsets) places ≡ in_order offsets
 places_front offsets places n h s =
@@ -35,9 +36,12 @@ close_all-requires g c = places_front c.args.spans.list.offsets.now c.order_with
 pub returns : goal.returns
 returns g c =
     let a = c.args in
-    let counted = c.close_all-count.ensures.counted in
-    finds_blocks a.spans.list.offsets.now a.spans.list.sizes.now a.block_offsets.now _ a.block_sizes.now _ a.spans.short a.spans.good
-    (omega (arith, counted, c.if-block_offsets-count.false))
-    (omega (arith, counted, c.if-block_sizes-count.false))
-    c.close_all.result
-    c.close_all.ensures
+    let l = a.spans.list in
+    let few = blocks_few l.offsets.now l.sizes.now in
+    let found = λ h k. finds_blocks l.offsets.now l.sizes.now a.block_offsets.now _ a.block_sizes.now _ a.spans.short a.spans.good h k c.close_all.result c.close_all.ensures in
+    elim c.if-block_offsets-n.branch [
+      | then-block_offsets-n+else-block_offsets-count+else-block_sizes-count w ↦
+        let counted = w.close_all-count.ensures.counted in
+        found (omega (arith, counted, w.if-block_offsets-count.false)) (omega (arith, counted, w.if-block_sizes-count.false))
+      | else-block_offsets-n+else-block_sizes-n w ↦ found (omega (arith, few, w.if-block_offsets-n.false)) (omega (arith, few, w.if-block_sizes-n.false))
+    ]
