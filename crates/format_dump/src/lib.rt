@@ -7,7 +7,7 @@ ghost use Rattle.output.specs.Writes.{Writes};
 ghost use Rattle.outcome.specs.Outcome.{Exports};
 ghost use Rattle.numbers.specs.Digits.{digit_count};
 ghost use Rattle.digits.specs.Bytes.{digit_bits};
-ghost use Rattle.format_dump.specs.Dump.{in_range, dump_lines, dump_text, dump_outcome, bindump, hexdump};
+ghost use Rattle.format_dump.specs.Dump.{in_range, dump_lines, dump_outcome, bindump, hexdump};
 
 use bitvec::{GoodImage, Image};
 use line::DumpLine;
@@ -79,6 +79,8 @@ struct Dump<'a> {
 }
 
 impl<'a> Dump<'a> {
+    ghost use Rattle.format_dump.specs.InnerTexts.{text_of};
+
     // The dump of an image with some options, where they are in their range.
     #[tactic(auto, using(crate::proofs::Range::kind_none, crate::proofs::Range::bytes_few, crate::proofs::Lengths::lines_few))]
     fn new(good: GoodImage<'a>, options: DumpOptions) -> Option<Dump<'a>>
@@ -101,15 +103,15 @@ impl<'a> Dump<'a> {
 
     // The length of its text.
     fn length(self) -> usize
-        ensures { result ≡ length (dump_text self.entry.good.image.bytes.now self.entry.good.image.len (digit_bits self.entry.kind) self.entry.count) }
+        ensures { result ≡ length (text_of self.entry) }
     {
         self.lines * line::line_length(self.kind, self.count, self.address)
     }
 
     // Stores its text. A line begins at the byte that its number says.
     fn write(self, out: &mut [u8]) -> usize
-        requires { length (dump_text self.good.image.bytes.now self.good.image.len (digit_bits self.kind) self.count) ≤ length out.old }
-        ensures { Writes (dump_text self.entry.good.image.bytes.now self.entry.good.image.len (digit_bits self.entry.kind) self.entry.count) out.old 0 out.new result }
+        requires { length (text_of self) ≤ length out.old }
+        ensures { Writes (text_of self.entry) out.old 0 out.new result }
     {
         let mut next = 0;
         for k in 0..self.lines {
@@ -119,7 +121,7 @@ impl<'a> Dump<'a> {
                 first: k * self.count,
                 count: self.count,
             };
-            next = line::put_line(out, next, line, self.address);
+            next = line.put_line(out, next, self.address);
         }
         next
     }

@@ -5,7 +5,7 @@ ghost use Rattle.std.specs.Prelude.{◌≡◌, [], ◌∷◌, List, ℕ, ◌+◌
 ghost use Rattle.output.specs.Writes.{Writes};
 ghost use Rattle.numbers.specs.Digits.{digit_count};
 ghost use Rattle.digits.specs.Bytes.{digits_per_byte, digit_bits};
-ghost use Rattle.format_dump.specs.Line.{dump_digit, printed, dump_char, dump_byte, digit_column, char_column, dump_line};
+ghost use Rattle.format_dump.specs.Line.{dump_digit, printed, dump_char, dump_byte, char_column, dump_line};
 
 use bitvec::{BitOffset, Image};
 use numbers::{DigitWidth, Letters, Radix};
@@ -66,50 +66,6 @@ fn dump_char(image: Image, from: BitOffset) -> u8
     printed(image.read_byte(from))
 }
 
-// Stores the byte of a line's image from a bit on, in digits, and a space. The digits of a byte that is
-// whole are stored at once: one by one a hexdump takes several times as long.
-fn put_dump_byte(out: &mut [u8], at: usize, line: DumpLine, from: BitOffset) -> usize
-    requires { (from.0 + 8 < 2 ^ 64) × (at + (digits_per_byte line.kind + 1) ≤ length out.old) }
-    ensures { Writes (dump_byte line.entry.image.bytes.now line.entry.image.len (digit_bits line.entry.kind) from.0) out.old at out.new result }
-{
-    if from.0 + 8 <= line.image.len {
-        let next = digits::put_byte_digits(out, at, line.kind, line.image.read_byte(from));
-        return output::put(out, next, b' ');
-    }
-    let width = line.kind.width();
-    let mut next = at;
-    for j in 0..line.kind.per_byte() {
-        next = put_dump_digit(out, next, line.image, width, from.plus(j * width.bits));
-    }
-    output::put(out, next, b' ')
-}
-
-// Stores the bytes of a line in digits, each behind what stands between it and the one before it.
-fn put_digit_column(out: &mut [u8], at: usize, line: DumpLine) -> usize
-    requires { at + length (digit_column line.image.bytes.now line.image.len (digit_bits line.kind) line.first line.count) ≤ length out.old }
-    ensures { Writes (digit_column line.entry.image.bytes.now line.entry.image.len (digit_bits line.entry.kind) line.entry.first line.entry.count) out.old at out.new result }
-{
-    let mut next = at;
-    for j in 0..line.count {
-        next = output::put_between(out, next, 4, j, b' ');
-        next = put_dump_byte(out, next, line, BitOffset((line.first + j) * 8));
-    }
-    next
-}
-
-// Stores the bytes of a line as characters.
-fn put_char_column(out: &mut [u8], at: usize, line: DumpLine) -> usize
-    requires { at + line.count ≤ length out.old }
-    ensures { Writes (char_column line.entry.image.bytes.now line.entry.image.len line.entry.first line.entry.count) out.old at out.new result }
-{
-    let mut next = at;
-    for j in 0..line.count {
-        let c = dump_char(line.image, BitOffset((line.first + j) * 8));
-        next = output::put(out, next, c);
-    }
-    next
-}
-
 // The length of a line of `count` bytes whose address is filled to `address` digits.
 #[tactic(auto, using(crate::proofs::Lengths::line_length))]
 pub fn line_length(kind: ByteDigits, count: usize, address: usize) -> usize
@@ -120,26 +76,74 @@ pub fn line_length(kind: ByteDigits, count: usize, address: usize) -> usize
     address + gaps + count * (kind.per_byte() + 2) + 9
 }
 
-// Stores a line, its address filled to `address` digits.
-#[tactic(auto, using(crate::proofs::Lengths::line_written))]
-pub fn put_line(out: &mut [u8], at: usize, line: DumpLine, address: usize) -> usize
-    requires fits { digit_count 16 line.first ≤ address }
-    requires room { at + length (dump_line line.image.bytes.now line.image.len (digit_bits line.kind) line.count address line.first) ≤ length out.old }
-    ensures { Writes (dump_line line.entry.image.bytes.now line.entry.image.len (digit_bits line.entry.kind) line.entry.count address line.entry.first) out.old at out.new result }
-{
-    let mut next = output::put(out, at, b' ');
-    next = numbers::put_column(
-        out,
-        next,
-        Letters::Lower,
-        line.first as u64,
-        Radix::HEX,
-        b'0',
-        address,
-    );
-    next = output::put_all(out, next, b" | ");
-    next = put_digit_column(out, next, line);
-    next = output::put_all(out, next, b"| ");
-    next = put_char_column(out, next, line);
-    output::put_all(out, next, b" |\n")
+impl<'a> DumpLine<'a> {
+    ghost use Rattle.format_dump.specs.InnerTexts.{line_digits, line_text};
+
+    // Stores the byte of the image from a bit on, in digits, and a space. The digits of a byte that is
+    // whole are stored at once: one by one a bindump takes more than twice as long.
+    fn put_dump_byte(self, out: &mut [u8], at: usize, from: BitOffset) -> usize
+        requires { (from.0 + 8 < 2 ^ 64) × (at + (digits_per_byte self.kind + 1) ≤ length out.old) }
+        ensures { Writes (dump_byte self.entry.image.bytes.now self.entry.image.len (digit_bits self.entry.kind) from.0) out.old at out.new result }
+    {
+        if from.0 + 8 <= self.image.len {
+            let next = digits::put_byte_digits(out, at, self.kind, self.image.read_byte(from));
+            return output::put(out, next, b' ');
+        }
+        let width = self.kind.width();
+        let mut next = at;
+        for j in 0..self.kind.per_byte() {
+            next = put_dump_digit(out, next, self.image, width, from.plus(j * width.bits));
+        }
+        output::put(out, next, b' ')
+    }
+
+    // Stores its bytes in digits, each behind what stands between it and the one before it.
+    fn put_digit_column(self, out: &mut [u8], at: usize) -> usize
+        requires { at + length (line_digits self) ≤ length out.old }
+        ensures { Writes (line_digits self.entry) out.old at out.new result }
+    {
+        let mut next = at;
+        for j in 0..self.count {
+            next = output::put_between(out, next, 4, j, b' ');
+            next = self.put_dump_byte(out, next, BitOffset((self.first + j) * 8));
+        }
+        next
+    }
+
+    // Stores its bytes as characters.
+    fn put_char_column(self, out: &mut [u8], at: usize) -> usize
+        requires { at + self.count ≤ length out.old }
+        ensures { Writes (char_column self.entry.image.bytes.now self.entry.image.len self.entry.first self.entry.count) out.old at out.new result }
+    {
+        let mut next = at;
+        for j in 0..self.count {
+            let c = dump_char(self.image, BitOffset((self.first + j) * 8));
+            next = output::put(out, next, c);
+        }
+        next
+    }
+
+    // Stores it, its address filled to `address` digits.
+    #[tactic(auto, using(crate::proofs::Lengths::line_written))]
+    pub fn put_line(self, out: &mut [u8], at: usize, address: usize) -> usize
+        requires fits { digit_count 16 self.first ≤ address }
+        requires room { at + length (line_text self address) ≤ length out.old }
+        ensures { Writes (line_text self.entry address) out.old at out.new result }
+    {
+        let mut next = output::put(out, at, b' ');
+        next = numbers::put_column(
+            out,
+            next,
+            Letters::Lower,
+            self.first as u64,
+            Radix::HEX,
+            b'0',
+            address,
+        );
+        next = output::put_all(out, next, b" | ");
+        next = self.put_digit_column(out, next);
+        next = output::put_all(out, next, b"| ");
+        next = self.put_char_column(out, next);
+        output::put_all(out, next, b" |\n")
+    }
 }

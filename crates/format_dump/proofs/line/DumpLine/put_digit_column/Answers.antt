@@ -1,4 +1,4 @@
--- `format_dump::line::put_digit_column` meets its contract: after j turns j bytes are written, each with what stands before it.
+-- `format_dump::line::DumpLine::put_digit_column` meets its contract: after j turns j bytes are written, each with what stands before it.
 -- Assumes nothing.
 use mathlib.Core.Path.{refl}
 use Prim.Native.Nat.{◌+◌, ◌*◌}
@@ -9,20 +9,20 @@ use Rattle.output.proofs.Writes.{writes_nothing, writes_then}
 use Rattle.digits.specs.Bytes.{digit_bits}
 use Rattle.format_dump.proofs.Bytes.{byte_length}
 use Rattle.format_dump.proofs.Lengths.{gap, line_byte}
-use Rattle.format_dump.proofs.line.put_digit_column.Goals as goal
+use Rattle.format_dump.proofs.line.DumpLine.put_digit_column.Goals as goal
 
 pub loop-j-init : goal.loop-j-init
 loop-j-init c = (rw joined_none (writes_nothing _ _), refl)
 
 pub put_between-next-requires : goal.put_between-next-requires
 put_between-next-requires c =
-    let a = c.args.line in
+    let a = c.args.self in
     let room = joined_room gap (line_byte a.image.bytes.now a.image.len (digit_bits a.kind) a.first) c.loop-j.j a.count (search rules) in
     (omega arith, omega (arith, room, c.loop-j.invariant.0.next, c.requires))
 
 pub put_dump_byte-next-requires : goal.put_dump_byte-next-requires
 put_dump_byte-next-requires c =
-    let a = c.args.line in
+    let a = c.args.self in
     let room = joined_room gap (line_byte a.image.bytes.now a.image.len (digit_bits a.kind) a.first) c.loop-j.j a.count (search rules) in
     omega (arith, room, c.loop-j.invariant.0.next, c.requires, c.put_between-next.ensures.next, byte_length a.kind a.image.bytes.now a.image.len ((a.first + c.loop-j.j) * 8))
 
