@@ -38,10 +38,11 @@ returns g c =
     let a = c.args in
     let l = a.spans.list in
     let few = blocks_few l.offsets.now l.sizes.now in
-    let found = λ h k. finds_blocks l.offsets.now l.sizes.now a.block_offsets.now _ a.block_sizes.now _ a.spans.short a.spans.good h k c.close_all.result c.close_all.ensures in
+    let enough = finds_blocks l.offsets.now l.sizes.now a.block_offsets.now c.close_all.new.block_offsets a.block_sizes.now c.close_all.new.block_sizes a.spans.short a.spans.good in
     elim c.if-block_offsets-n.branch [
       | then-block_offsets-n+else-block_offsets-count+else-block_sizes-count w ↦
         let counted = w.close_all-count.ensures.counted in
-        found (omega (arith, counted, w.if-block_offsets-count.false)) (omega (arith, counted, w.if-block_sizes-count.false))
-      | else-block_offsets-n+else-block_sizes-n w ↦ found (omega (arith, few, w.if-block_offsets-n.false)) (omega (arith, few, w.if-block_sizes-n.false))
+        enough (omega (arith, counted, w.if-block_offsets-count.false)) (omega (arith, counted, w.if-block_sizes-count.false)) c.close_all.result c.close_all.ensures
+      | else-block_offsets-n+else-block_sizes-n w ↦
+        enough (omega (arith, few, w.if-block_offsets-n.false)) (omega (arith, few, w.if-block_sizes-n.false)) c.close_all.result c.close_all.ensures
     ]

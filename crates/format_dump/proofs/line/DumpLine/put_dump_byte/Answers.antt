@@ -23,12 +23,12 @@ loop-j-preserved c = (
 )
 
 pub put-requires : goal.put-requires
-put-requires c = omega (arith, c.put_digits-next.ensures, byte_length c.args.self.kind (c.read_byte.result))
+put-requires c = omega (arith, c.put_byte_digits-next.ensures, byte_length c.args.self.kind (c.read_byte.result))
 
 pub returns-then-from-self : goal.returns-then-from-self
 returns-then-from-self c =
     let l = c.args.self in
-    rw (whole_byte l.kind l.image.bytes.now l.image.len c.args.from.0 c.if-from-self.true, ← c.read_byte.ensures) (writes_then c.put_digits-next.ensures c.put.ensures)
+    rw (whole_byte l.kind l.image.bytes.now l.image.len c.args.from.0 c.if-from-self.true, ← c.read_byte.ensures) (writes_then c.put_byte_digits-next.ensures c.put.ensures)
 
 pub returns : goal.returns
 unfolding dump_byte
