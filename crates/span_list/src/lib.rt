@@ -53,7 +53,7 @@ impl<'a> GoodSpans<'a> {
 fn bad_span(offset: u32, size: u32) -> bool
     ensures { result ≡ bad_span offset size }
 {
-    offset != ABSENT && MAX_BITS < offset as usize + size as usize
+    MAX_BITS < offset as usize + size as usize && offset != ABSENT
 }
 
 // The place of the first bad span.
