@@ -26,15 +26,16 @@ fn put_overlapping<const N: usize>(out: &mut [u8], at: usize, part: &[u8]) -> us
     put_fixed::<N>(out, at + behind, &part[behind..])
 }
 
-// Stores a part. One of up to sixteen characters is two stores, whose size goes by the part's: a copy of
-// the part's length is a call, which takes three to five times as long.
+// Stores a part. One of up to sixteen characters is one store or two, whose size goes by the part's: a copy
+// of the part's length is a call, which takes three to five times as long.
 pub fn put_part(out: &mut [u8], at: usize, part: &[u8]) -> usize
     requires { at + length part.now ≤ length out.old }
     ensures { Writes part.now out.old at out.new result }
 {
     match part.len() {
         1 => output::put(out, at, part[0]),
-        2..=3 => put_overlapping::<2>(out, at, part),
+        2 => put_fixed::<2>(out, at, part),
+        3 => put_overlapping::<2>(out, at, part),
         4..=7 => put_overlapping::<4>(out, at, part),
         8..=16 => put_overlapping::<8>(out, at, part),
         _ => output::put_all(out, at, part),

@@ -1,7 +1,7 @@
 // One line of the dump of an image (document 01, module 6): its address, its bytes in digits and its
 // bytes as characters.
 
-ghost use Rattle.std.specs.Prelude.{◌≡◌, [], ◌∷◌, List, ℕ, ◌+◌, ◌*◌, ◌≤◌, ◌<◌, ◌^◌, length};
+ghost use Rattle.std.specs.Prelude.{cond, ◌≡◌, [], ◌∷◌, List, ℕ, ◌+◌, ◌*◌, ◌≤◌, ◌<◌, ◌^◌, length};
 ghost use Rattle.output.specs.Writes.{Writes};
 ghost use Rattle.numbers.specs.Digits.{digit_count};
 ghost use Rattle.digits.specs.Bytes.{digits_per_byte, digit_bits};
@@ -40,18 +40,25 @@ fn put_dump_digit(
     digits::put_digit(out, at, image, width, from)
 }
 
-// The character that a byte is printed as.
-#[tactic(auto, unfolding(crate::specs::Line::printed))]
+// One of two characters.
+fn choose(test: bool, yes: u8, no: u8) -> u8
+    ensures { result ≡ cond test yes no }
+{
+    if test { yes } else { no }
+}
+
+// The character that a byte is printed as: one choice after the other, so that no branch goes by the byte,
+// which a processor would foresee wrongly.
 fn printed(byte: u8) -> u8
     ensures { result ≡ printed byte }
 {
-    if byte == b' ' || byte == b'\t' || byte == b'\r' || byte == b'\n' {
-        return b' ';
-    }
-    if 127 < byte || byte < b' ' || byte == b'|' {
-        return b'.';
-    }
-    byte
+    let mut shown = choose(byte == b'|', b'.', byte);
+    shown = choose(byte < b' ', b'.', shown);
+    shown = choose(127 < byte, b'.', shown);
+    shown = choose(byte == b'\n', b' ', shown);
+    shown = choose(byte == b'\r', b' ', shown);
+    shown = choose(byte == b'\t', b' ', shown);
+    choose(byte == b' ', b' ', shown)
 }
 
 // The character of a byte of the image, a point where its first bit is past the end.
