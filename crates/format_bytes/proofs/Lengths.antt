@@ -35,17 +35,6 @@ pub hex_length : (b : ℕ) → length (byte_in 16 b) ≡ 4
 unfolding byte_in byte_text
 hex_length b = refl
 
--- Any radix but 10 writes a byte as radix 16 does, so the two of the code's enum are all.
-pub hex_alike : (radix b : ℕ) → (radix ≡ 10 → ⊥) → byte_in radix b ≡ byte_in 16 b
-unfolding byte_in
-hex_alike radix b h = simp (ne_eqb radix 10 h) refl
-
--- So is the list of all bytes.
-pub list_alike : (radix : ℕ) (s : List ℕ) (line : ℕ → List ℕ) (bytes : List ℕ) (len : ℕ) → (radix ≡ 10 → ⊥)
-    → byte_list radix s line bytes len ≡ byte_list 16 s line bytes len
-unfolding byte_list byte_in
-list_alike radix s line bytes len h = simp (ne_eqb radix 10 h) refl
-
 -- The list: its bytes and what stands between them, where all lines start with texts of one length.
 pub list_length : (radix : ℕ) (s : List ℕ) (line : ℕ → List ℕ) (bytes : List ℕ) (len start : ℕ)
     → ((k : ℕ) → k < ceil_div len 8 → length (line k) ≡ start)

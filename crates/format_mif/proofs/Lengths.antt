@@ -38,9 +38,3 @@ pub counts_below : (n : ℕ) → n < 2 ^ 32 → (digit_count 16 (n - 1) ≤ 32) 
 counts_below n h =
     let width = count_small 16 (omega arith) 31 (n - 1) (omega arith) in
     (width, count_small 10 (omega arith) 31 n (omega arith), mul-le-mul {n₂ = 2 ^ 32} {m₂ = 39} (omega arith) (omega arith))
-
--- The same of the bytes of an image, which are fewer.
-pub counts_few : (n : ℕ) → n ≤ 2 ^ 24 → (digit_count 16 (n - 1) ≤ 24) × (digit_count 10 n ≤ 25) × (n * (digit_count 16 (n - 1) + 7) ≤ 2 ^ 24 * 31)
-counts_few n h =
-    let width = count_small 16 (omega arith) 23 (n - 1) (omega arith) in
-    (width, count_small 10 (omega arith) 24 n (omega arith), mul-le-mul {n₂ = 2 ^ 24} {m₂ = 31} h (omega arith))

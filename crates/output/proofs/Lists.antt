@@ -68,10 +68,6 @@ module _ {A : Type 0} where
   each_both P Q R [] f p q = tt
   each_both P Q R (x ∷ l) f p q = (f x p.0 q.0, each_both P Q R l f p.1 q.1)
 
-  -- Where a list goes on with the part a after k things, as many more are taken.
-  pub part_taken : (l a rest : List A) (k : ℕ) → drop k l ≡ a ++ rest → take (k + length a) l ≡ take k l ++ a
-  part_taken l a rest k e = take-add k (length a) l ∙ ap (λ (t : List A). take k l ++ take (length a) t) e ∙ ap (λ (t : List A). take k l ++ t) (take-append_seam a rest)
-
 pub map_append : {A B : Type 0} (g : A → B) (a b : List A) → map g (a ++ b) ≡ map g a ++ map g b
 map_append g [] b = refl
 map_append {B = B} g (x ∷ a) b = ap (λ (t : List B). g x ∷ t) (map_append g a b)
@@ -136,13 +132,6 @@ pub sets_copied : (l s : List ℕ) (k : ℕ) → k < length s → set (sets l 0 
 sets_copied l s k h =
     sets_more l (take k s) k (get_or s k 0) (sym (length-take-le k s (omega arith)))
     ∙ ap (sets l 0) (sym (take-suc s k 0 h) ∙ ap (λ (i : ℕ). take i s) (sym (add-one k)))
-
--- Where a list goes on with the part a after k numbers, this part stored behind the first k.
-pub sets_part : (l m a rest : List ℕ) (k : ℕ) → k ≤ length m → drop k m ≡ a ++ rest → sets (sets l 0 (take k m)) k a ≡ sets l 0 (take (k + length a) m)
-sets_part l m a rest k h e =
-    ap (λ (i : ℕ). sets (sets l 0 (take k m)) i a) (sym (zero-add k) ∙ ap (λ (i : ℕ). 0 + i) (sym (length-take-le k m h)))
-    ∙ sets_append (take k m) a l 0
-    ∙ ap (sets l 0) (sym (part_taken m a rest k e))
 
 -- What is stored from the front is there.
 pub sets_front : (l t : List ℕ) (n : ℕ) → length t ≤ length l → n ≡ length t → take n (sets l 0 t) ≡ t

@@ -51,15 +51,3 @@ pub pieces_equal : (f g : ℕ → List ℕ) (n : ℕ) → ((i : ℕ) → i < n �
 unfolding pieces
 pieces_equal f g zero e = refl
 pieces_equal f g (suc n) e = rw (pieces_equal f g n (λ i h. e i (omega arith)), e n (omega arith))
-
--- A text of one character, and one of two.
-pub text_of_one : (s : List ℕ) → length s ≡ 1 → get_or s 0 0 ∷ [] ≡ s
-text_of_one [] h = absurd (omega arith)
-text_of_one (x ∷ []) h = refl
-text_of_one (x ∷ y ∷ s) h = absurd (omega arith)
-
-pub text_of_two : (s : List ℕ) → length s ≡ 2 → get_or s 0 0 ∷ get_or s 1 0 ∷ [] ≡ s
-text_of_two [] h = absurd (omega arith)
-text_of_two (x ∷ []) h = absurd (omega arith)
-text_of_two (x ∷ y ∷ []) h = refl
-text_of_two (x ∷ y ∷ z ∷ s) h = absurd (omega arith)
