@@ -14,7 +14,7 @@ use Rattle.ordering.specs.Order.{absent}
 use Rattle.listing.specs.declared.FormatAnnotatedOptions.{FormatAnnotatedOptions}
 use Rattle.listing.specs.declared.Widths.{Widths}
 use Rattle.listing.specs.Listing.{wider, widths_of}
-use Rattle.listing.specs.InnerFits.{SpanFits}
+use Rattle.listing.specs.InnerSpan.{SpanFits}
 
 -- A span that has an offset makes the columns as wide as its numbers.
 widened : (o : FormatAnnotatedOptions) (offsets sizes addrs : List ℕ) (n : ℕ) → get_or offsets n 0 ≢ absent

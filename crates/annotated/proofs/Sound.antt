@@ -17,8 +17,8 @@ use Rattle.output.proofs.Lists.{first_none}
 use Rattle.sources.specs.Sources.{source, excerpt_of, no_location}
 use Rattle.listing.specs.declared.FormatAnnotatedOptions.{FormatAnnotatedOptions}
 use Rattle.listing.specs.declared.Widths.{Widths}
-use Rattle.listing.specs.Listing.{Spans, shown, line_text, span_line}
-use Rattle.annotated.specs.Faults.{misplaced, faulty, span_fault}
+use Rattle.listing.specs.Listing.{Spans, shown, span_text, span_line}
+use Rattle.annotated.specs.Annotated.{misplaced, faulty, span_fault}
 
 -- What is not the case where the first of two things is.
 and_left : (a b : Bool) → a && b ≡ false → a ≡ true → b ≡ false
@@ -74,7 +74,7 @@ sound_at o s firmware protocol e p h = first_none _ (length s.offsets) e p h
 
 -- The line of a span that is shown, and of one that is hidden.
 pub line_shown : (o : FormatAnnotatedOptions) (w : Widths) (bytes : List ℕ) (len offset size address : ℕ) (excerpt : List ℕ) → shown o size ≡ true
-    → span_line o w bytes len offset size address excerpt ≡ line_text o w bytes len offset size address excerpt
+    → span_line o w bytes len offset size address excerpt ≡ span_text o w bytes len offset size address excerpt
 unfolding span_line
 line_shown o w bytes len offset size address excerpt e = simp e
 

@@ -7,7 +7,7 @@ ghost use Rattle.outcome.specs.Outcome.{in_room, Exports};
 ghost use Rattle.ordering.specs.Order.{in_order};
 ghost use Rattle.listing.specs.Listing.{lent, Narrow, widths_of};
 ghost use Rattle.listing.specs.InnerLine.{line_of};
-ghost use Rattle.annotated.specs.Faults.{span_fault};
+ghost use Rattle.annotated.specs.Annotated.{span_fault};
 
 use crate::faults::{excerpt_at, shown};
 use bitvec::Image;

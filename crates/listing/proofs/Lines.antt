@@ -15,8 +15,8 @@ use Rattle.numbers.proofs.Digits.{number_length, padded_length, padded_wider}
 use Rattle.ordering.specs.Order.{absent}
 use Rattle.listing.specs.declared.FormatAnnotatedOptions.{FormatAnnotatedOptions}
 use Rattle.listing.specs.declared.Widths.{Widths}
-use Rattle.listing.specs.Listing.{contents, at_right, at_left, place, position, line_text}
-use Rattle.listing.specs.InnerFits.{SpanFits}
+use Rattle.listing.specs.Listing.{contents, at_right, at_left, place, position, span_text}
+use Rattle.listing.specs.InnerSpan.{SpanFits}
 use Rattle.listing.specs.InnerLine.{number_of, position_of, address_of, column_of, line_of}
 use Rattle.listing.specs.declared.line.SpanLine.{SpanLine}
 
@@ -100,7 +100,7 @@ at_left_length width t =
 pub line_parts : (s : SpanLine)
     → length (line_of s)
     ≡ length (position_of s) + length (address_of s) + max s.layout.widths.content (length (contents s.layout.options.given s.image.bytes.now s.image.len (number_of s) s.span.size)) + length s.excerpt.now + 10
-unfolding line_text
+unfolding span_text
 line_parts s =
     let t₁ = s.excerpt.now ++ ascii "\n" in
     let t₂ = ascii " ; " ++ t₁ in

@@ -4,9 +4,9 @@ use Rattle.numbers.specs.declared.Letters.TheVariants.{Lower}
 use Rattle.numbers.specs.Digits.{number_text}
 use Rattle.ordering.specs.Order.{absent}
 use Rattle.listing.specs.declared.line.SpanLine.{SpanLine}
-use Rattle.listing.specs.Listing.{contents, at_right, at_left, position, line_text}
+use Rattle.listing.specs.Listing.{contents, at_right, at_left, position, span_text}
 
--- The number of its offset, or that of none.
+-- The number of its offset, or that of none; its position, its logical address, its contents in their column, and its line.
 abbrev pub number_of : SpanLine → ℕ
 number_of s = unwrap_or s.span.offset absent
 
@@ -20,4 +20,4 @@ abbrev pub column_of : SpanLine → List ℕ
 column_of s = at_left s.layout.widths.content (contents s.layout.options.given s.image.bytes.now s.image.len (number_of s) s.span.size)
 
 abbrev pub line_of : SpanLine → List ℕ
-line_of s = line_text s.layout.options.given s.layout.widths s.image.bytes.now s.image.len (number_of s) s.span.size s.span.addr s.excerpt.now
+line_of s = span_text s.layout.options.given s.layout.widths s.image.bytes.now s.image.len (number_of s) s.span.size s.span.addr s.excerpt.now

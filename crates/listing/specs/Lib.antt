@@ -1,4 +1,3 @@
 pub mod Listing
-pub mod InnerContents
-pub mod InnerFits
 pub mod InnerLine
+pub mod InnerSpan

@@ -141,8 +141,8 @@ position o w offset =
     ++ (ascii ":" ++ place o w.outp_bit offset (offset % 8) (ascii "-")))
 
 -- The line of a span: its position, its logical address, its contents, and its excerpt.
-unfoldable pub line_text : FormatAnnotatedOptions → Widths → List ℕ → ℕ → ℕ → ℕ → ℕ → List ℕ → List ℕ
-line_text o w bytes len offset size address excerpt =
+unfoldable pub span_text : FormatAnnotatedOptions → Widths → List ℕ → ℕ → ℕ → ℕ → ℕ → List ℕ → List ℕ
+span_text o w bytes len offset size address excerpt =
     position o w offset
     ++ (ascii " | " ++ (at_right w.addr (number_text Lower o.addr_base address)
     ++ (ascii " | " ++ (at_left w.content (contents o bytes len offset size)
@@ -151,11 +151,11 @@ line_text o w bytes len offset size address excerpt =
 
 -- The line of a span that is shown, and nothing for one that is hidden.
 unfoldable pub span_line : FormatAnnotatedOptions → Widths → List ℕ → ℕ → ℕ → ℕ → ℕ → List ℕ → List ℕ
-span_line o w bytes len offset size address excerpt = cond (shown o size) (line_text o w bytes len offset size address excerpt) []
+span_line o w bytes len offset size address excerpt = cond (shown o size) (span_text o w bytes len offset size address excerpt) []
 
 -- The line of the span at a place of the lent list.
-unfoldable pub line_at : FormatAnnotatedOptions → Widths → List ℕ → ℕ → Spans → List ℕ → List ℕ → ℕ → List ℕ
-line_at o w bytes len s firmware protocol p =
+unfoldable pub span_line_at : FormatAnnotatedOptions → Widths → List ℕ → ℕ → Spans → List ℕ → List ℕ → ℕ → List ℕ
+span_line_at o w bytes len s firmware protocol p =
     let excerpt = excerpt_of firmware protocol (get_or s.files p 0) (get_or s.starts p 0) (get_or s.ends p 0) in
     span_line o w bytes len (get_or s.offsets p 0) (get_or s.sizes p 0) (get_or s.addrs p 0) excerpt
 
@@ -163,4 +163,4 @@ line_at o w bytes len s firmware protocol p =
 unfoldable pub annotated_text : FormatAnnotatedOptions → List ℕ → ℕ → Spans → List ℕ → List ℕ → List ℕ
 annotated_text o bytes len s firmware protocol =
     let w = widths_of o s.offsets s.sizes s.addrs (length s.offsets) in
-    heading o w ++ flat_map (line_at o w bytes len s firmware protocol) (in_order s.offsets)
+    heading o w ++ flat_map (span_line_at o w bytes len s firmware protocol) (in_order s.offsets)

@@ -4,7 +4,7 @@ ghost use Rattle.std.specs.Prelude.{◌≡◌, ◌+◌, ◌≤◌, ◌<◌, ◌^
 ghost use Rattle.output.specs.Writes.{Writes};
 ghost use Rattle.ordering.specs.Order.{absent};
 ghost use Rattle.listing.specs.Listing.{Narrow};
-ghost use Rattle.listing.specs.InnerFits.{SpanFits};
+ghost use Rattle.listing.specs.InnerSpan.{SpanFits};
 
 use crate::contents::{contents_length, put_contents};
 use crate::{Layout, ListedSpan};

@@ -5,8 +5,8 @@ use mathlib.Core.Bool.{true, false}
 use Prim.Native.Nat.{ℕ, ◌<◌}
 use lib.ListN.{length, get_or}
 use Rattle.ordering.proofs.Numbered.{offset_lent}
-use Rattle.listing.specs.Listing.{lent, line_at, shown}
-use Rattle.annotated.specs.Faults.{misplaced}
+use Rattle.listing.specs.Listing.{lent, span_line_at, shown}
+use Rattle.annotated.specs.Annotated.{misplaced}
 use Rattle.annotated.specs.declared.listed.Listed.{Listed}
 use Rattle.annotated.proofs.Fits.{fits_at}
 use Rattle.annotated.proofs.Sound.{differ, placed, sound_at, line_shown, line_hidden, excerpt_short}
@@ -21,7 +21,7 @@ in_text s place h e =
     e
 
 pub returns-then-not-shown : goal.returns-then-not-shown
-unfolding line_at
+unfolding span_line_at
 returns-then-not-shown c = line_hidden _ _ _ _ _ _ _ _ (rw c.span-span.ensures.size at (sym c.shown.ensures ∙ c.if-not-shown.true))
 
 pub returns-in_err-excerpt : goal.returns-in_err-excerpt
@@ -39,7 +39,7 @@ invariant_of-result c =
     }
 
 pub returns : goal.returns
-unfolding line_at
+unfolding span_line_at
 returns c =
     let a = c.args.self in
     let span = c.span-span.ensures in

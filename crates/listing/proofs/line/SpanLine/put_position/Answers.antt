@@ -13,7 +13,7 @@ use Rattle.numbers.proofs.Digits.{number_length, padded_length}
 use Rattle.listing.specs.Listing.{at_right}
 use Rattle.listing.specs.InnerLine.{number_of, position_of}
 use Rattle.listing.specs.declared.line.SpanLine.{SpanLine}
-use Rattle.listing.specs.InnerFits.{SpanFits}
+use Rattle.listing.specs.InnerSpan.{SpanFits}
 use Rattle.listing.proofs.Lines.{position_parts, position_absent, position_present, absent_length, present_length}
 use Rattle.listing.proofs.line.SpanLine.put_position.Goals as goal
 
