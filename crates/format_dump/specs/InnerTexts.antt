@@ -3,12 +3,9 @@ use Rattle.std.specs.Prelude.{List, ℕ}
 use Rattle.digits.specs.Bytes.{digit_bits}
 use Rattle.format_dump.specs.declared.line.DumpLine.{DumpLine}
 use Rattle.format_dump.specs.declared.Dump.{Dump}
-use Rattle.format_dump.specs.Dump.{digit_column, dump_line, dump_text}
+use Rattle.format_dump.specs.Dump.{dump_line, dump_text}
 
--- The bytes of a line in digits; the line, its address filled to a number of digits; a dump.
-abbrev pub line_digits : DumpLine → List ℕ
-line_digits l = digit_column l.image.bytes.now l.image.len (digit_bits l.kind) l.first l.count
-
+-- A line, its address filled to a number of digits, and a dump.
 abbrev pub written_line : DumpLine → ℕ → List ℕ
 written_line l address = dump_line l.image.bytes.now l.image.len (digit_bits l.kind) l.count address l.first
 

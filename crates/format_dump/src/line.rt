@@ -5,7 +5,7 @@ ghost use Rattle.std.specs.Prelude.{◌≡◌, [], ◌∷◌, List, ℕ, ◌+◌
 ghost use Rattle.output.specs.Writes.{Writes};
 ghost use Rattle.numbers.specs.Digits.{digit_count};
 ghost use Rattle.digits.specs.Bytes.{digits_per_byte, digit_bits};
-ghost use Rattle.format_dump.specs.Dump.{dump_digit, char_of, dump_char, dump_byte, char_column, dump_line};
+ghost use Rattle.format_dump.specs.Dump.{dump_digit, char_of, dump_char, dump_byte, digit_column, char_column, dump_line};
 
 use bitvec::{BitOffset, Image};
 use digits::ByteDigits;
@@ -77,7 +77,7 @@ pub fn line_length(kind: ByteDigits, count: usize, address: usize) -> usize
 }
 
 impl<'a> DumpLine<'a> {
-    ghost use Rattle.format_dump.specs.InnerTexts.{line_digits, written_line};
+    ghost use Rattle.format_dump.specs.InnerTexts.{written_line};
 
     // Stores the byte of the image from a bit on, in digits, and a space. The digits of a byte that is
     // whole are stored at once: one by one a bindump takes more than twice as long.
@@ -99,8 +99,8 @@ impl<'a> DumpLine<'a> {
 
     // Stores its bytes in digits, each behind what stands between it and the one before it.
     fn put_digit_column(self, out: &mut [u8], at: usize) -> usize
-        requires { at + length (line_digits self) ≤ length out.old }
-        ensures { Writes (line_digits self.entry) out.old at out.new result }
+        requires { at + length (digit_column self.image.bytes.now self.image.len (digit_bits self.kind) self.first self.count) ≤ length out.old }
+        ensures { Writes (digit_column self.entry.image.bytes.now self.entry.image.len (digit_bits self.entry.kind) self.entry.first self.entry.count) out.old at out.new result }
     {
         let mut next = at;
         for j in 0..self.count {

@@ -56,10 +56,7 @@ location_from file start end = cond (eqb start no_location) None (Some (record {
 unfoldable pub unequal : Spans → Bool
 unequal s =
     let n = length s.offsets in
-    not (eqb n (length s.addrs))
-    || (not (eqb n (length s.files))
-    || (not (eqb n (length s.starts))
-    || not (eqb n (length s.ends))))
+    not (eqb n (length s.addrs)) || (not (eqb n (length s.files)) || (not (eqb n (length s.starts)) || not (eqb n (length s.ends))))
 
 -- Document 01's "shown": a span is hidden when labels are off and its size is 0.
 unfoldable pub shown : FormatAnnotatedOptions → ℕ → Bool
@@ -149,18 +146,14 @@ span_text o w bytes len offset size address excerpt =
     ++ (ascii " ; " ++ (excerpt
     ++ ascii "\n"))))))
 
--- The line of a span that is shown, and nothing for one that is hidden.
-unfoldable pub span_line : FormatAnnotatedOptions → Widths → List ℕ → ℕ → ℕ → ℕ → ℕ → List ℕ → List ℕ
-span_line o w bytes len offset size address excerpt = cond (shown o size) (span_text o w bytes len offset size address excerpt) []
-
--- The line of the span at a place of the lent list.
-unfoldable pub span_line_at : FormatAnnotatedOptions → Widths → List ℕ → ℕ → Spans → List ℕ → List ℕ → ℕ → List ℕ
-span_line_at o w bytes len s firmware protocol p =
+-- The line of the span at a place of the lent list where it is shown, and nothing where it is hidden.
+unfoldable pub span_line : FormatAnnotatedOptions → Widths → List ℕ → ℕ → Spans → List ℕ → List ℕ → ℕ → List ℕ
+span_line o w bytes len s firmware protocol p =
     let excerpt = excerpt_of firmware protocol (get_or s.files p 0) (get_or s.starts p 0) (get_or s.ends p 0) in
-    span_line o w bytes len (get_or s.offsets p 0) (get_or s.sizes p 0) (get_or s.addrs p 0) excerpt
+    cond (shown o (get_or s.sizes p 0)) (span_text o w bytes len (get_or s.offsets p 0) (get_or s.sizes p 0) (get_or s.addrs p 0) excerpt) []
 
 -- The heading, and the lines of the spans in order.
 unfoldable pub annotated_text : FormatAnnotatedOptions → List ℕ → ℕ → Spans → List ℕ → List ℕ → List ℕ
 annotated_text o bytes len s firmware protocol =
     let w = widths_of o s.offsets s.sizes s.addrs (length s.offsets) in
-    heading o w ++ flat_map (span_line_at o w bytes len s firmware protocol) (in_order s.offsets)
+    heading o w ++ flat_map (span_line o w bytes len s firmware protocol) (in_order s.offsets)
