@@ -21,7 +21,7 @@ use Rattle.output.proofs.Pieces.{pieces_append, pieces_length}
 use Rattle.digits.specs.Run.{digit_at, run}
 use Rattle.listing.specs.declared.ListingOptions.{ListingOptions}
 use Rattle.listing.specs.Listing.{content_digits, content_digit, contents}
-use Rattle.listing.specs.InnerSpan.{gap, spaced_digit, digits_from}
+use Rattle.listing.specs.InnerLine.{gap, spaced_digit, digits_from}
 
 -- Nothing stands before a digit within a group, and a space before the first one of a group but the first.
 pub gap_within : (g k turn : ℕ) → turn ≡ k % g → turn ≢ 0 → leading (gap g) k ≡ []

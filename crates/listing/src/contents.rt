@@ -5,7 +5,7 @@ ghost use Rattle.std.specs.Prelude.{◌≡◌, List, [], ◌∷◌, ◌++◌, �
 ghost use Rattle.output.specs.Pieces.{leading};
 ghost use Rattle.output.specs.Writes.{Writes};
 ghost use Rattle.listing.specs.Listing.{content_digit, contents};
-ghost use Rattle.listing.specs.InnerSpan.{gap, digits_from};
+ghost use Rattle.listing.specs.InnerLine.{gap, digits_from};
 
 use crate::ListingOptions;
 use bitvec::{BitOffset, Image};

@@ -13,7 +13,7 @@ use Rattle.output.specs.Pieces.{pieces, leading}
 use Rattle.output.proofs.Writes.{writes_then, room_then}
 use Rattle.listing.specs.declared.ListingOptions.{ListingOptions}
 use Rattle.listing.specs.Listing.{contents}
-use Rattle.listing.specs.InnerSpan.{gap, digits_from}
+use Rattle.listing.specs.InnerLine.{gap, digits_from}
 use Rattle.listing.proofs.Digits.{group_at, contents_digits, contents_parts}
 use Rattle.listing.proofs.contents.put_contents.Goals as goal
 

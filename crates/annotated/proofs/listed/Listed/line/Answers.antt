@@ -35,7 +35,7 @@ invariant_of-result c =
     let s = a.spans.columns in
     let span = c.span-span.ensures in
     record {
-      fits = rw (span.offset, offset_lent (get_or s.offsets.now c.args.place 0), span.addr, a.wide) (fits_at a.layout.options.given s.offsets.now s.sizes.now s.addrs.now (length s.offsets.now) c.args.place c.requires);
+      fits = rw (span.offset, offset_lent (get_or s.offsets.now c.args.place 0), span.size, span.addr, a.wide) (fits_at a.layout.options.given s.offsets.now s.sizes.now s.addrs.now (length s.offsets.now) c.args.place c.requires);
     }
 
 pub returns : goal.returns

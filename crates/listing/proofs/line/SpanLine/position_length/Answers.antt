@@ -8,7 +8,7 @@ use Rattle.listing.proofs.line.SpanLine.position_length.Goals as goal
 pub returns-in-Some : goal.returns-in-Some
 returns-in-Some c =
     let a = c.args.self in
-    let length = present_length a.layout.options.given a.layout.widths c.in-Some.field-0 a.span.addr (a.span.there _ c.in-Some.is) (rw c.in-Some.is at a.fits) in
+    let length = present_length a.layout.options.given a.layout.widths c.in-Some.field-0 a.span.size a.span.addr (a.span.there _ c.in-Some.is) ((rw c.in-Some.is at a.fits) (a.span.there _ c.in-Some.is)) in
     (rw (c.in-Some.is, length) refl, omega (arith, c.requires))
 
 pub returns-in-None : goal.returns-in-None
