@@ -4,7 +4,7 @@
 --      outp | addr | data (base 16)
 --
 --       0:0 |    0 | 12 ; nop
-use Rattle.std.specs.Prelude.{Bool, Option, None, Some, cond, not, ◌||◌, ℕ, zero, suc, ◌+◌, ◌-◌, ◌*◌, ◌/◌, ◌%◌, ◌≤◌, max, eqb, ltb, length, get_or, replicate}
+use Rattle.std.specs.Prelude.{Bool, Option, None, Some, cond, not, ◌||◌, ℕ, zero, suc, ◌+◌, ◌-◌, ◌*◌, ◌/◌, ◌%◌, max, eqb, ltb, length, get_or, replicate}
 use mathlib.Core.List.{List, [], ◌∷◌, ◌++◌, flat_map}
 use Prim.Native.Char.{code}
 use Rattle.bitvec.specs.Size.{ceil_div}
@@ -100,10 +100,6 @@ wider o w offset size address =
       addr = max w.addr (digit_count o.addr_base address);
       content = max w.content (content_need o size);
     }
-
--- Columns that are narrow, so that a length of them can be counted.
-abbrev pub Narrow : Widths → Type 0
-Narrow w = w.outp + w.outp_bit + w.addr + w.content ≤ 516
 
 -- The widths over the first n spans that have an offset, shown or hidden.
 unfoldable pub widths_of : FormatAnnotatedOptions → List ℕ → List ℕ → List ℕ → ℕ → Widths

@@ -3,7 +3,7 @@
 ghost use Rattle.std.specs.Prelude.{◌≡◌, ◌≢◌, ◌+◌, ◌≤◌, ◌<◌, ◌^◌, length, unwrap_or};
 ghost use Rattle.output.specs.Writes.{Writes};
 ghost use Rattle.ordering.specs.Order.{absent};
-ghost use Rattle.listing.specs.Listing.{Narrow, wider};
+ghost use Rattle.listing.specs.Listing.{wider};
 
 use crate::contents::{contents_length, put_contents};
 use crate::{Layout, ListedSpan};
@@ -49,7 +49,6 @@ impl<'a> SpanLine<'a> {
 
     // The length of the position.
     fn position_length(self) -> usize
-        requires { Narrow self.layout.widths }
         ensures { (result ≡ length (position_of self.entry)) × (result ≤ 600) }
     {
         let widths = self.layout.widths;
@@ -101,7 +100,7 @@ impl<'a> SpanLine<'a> {
 
     // The length of the line.
     pub fn length(self) -> usize
-        requires { Narrow self.layout.widths × (length self.excerpt.now ≤ 1048576) }
+        requires { length self.excerpt.now ≤ 1048576 }
         ensures { (result ≡ length (line_of self.entry)) × (result < 2 ^ 35) }
     {
         let Layout { options, widths } = self.layout;

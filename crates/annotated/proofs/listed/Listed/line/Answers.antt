@@ -46,6 +46,5 @@ returns c =
     let text = c.in_ok-excerpt.ensures _ _ _ span.location in
     let seen = rw span.size at (sym c.shown.ensures ∙ c.if-not-shown.false) in (
       rw (span.offset, offset_lent (get_or a.spans.columns.offsets.now c.args.place 0), span.size, span.addr, text.1) (simp seen),
-      a.narrow,
       rw text.1 (excerpt_short a.sources.firmware.now a.sources.protocol.now _ _ _ 1048576 a.short_firmware a.short_protocol),
     )
