@@ -1,8 +1,8 @@
--- Laws of spans that can be shown, and of the lines of those that are.
+-- Laws of spans that can be shown.
 -- Assumes nothing.
 use mathlib.Core.Path.{◌≡◌, refl, sym, subst}
 use mathlib.Core.Bool.{Bool, true, false, cond, not, ◌&&◌, ◌||◌}
-use mathlib.Core.List.{List, []}
+use mathlib.Core.List.{List}
 use mathlib.Mathlib.Data.Bool.Basic.{or-eq-false-eq-eq-false-and-eq-false}
 use mathlib.Core.Logic.{◌≢◌}
 use Prim.Native.Nat.{ℕ, ◌-◌, ◌≤◌, ◌<◌}
@@ -16,9 +16,8 @@ use Rattle.ordering.specs.Order.{absent, offset_from}
 use Rattle.output.proofs.Lists.{first_none}
 use Rattle.sources.specs.Sources.{source, excerpt_of, no_location}
 use Rattle.listing.specs.declared.FormatAnnotatedOptions.{FormatAnnotatedOptions}
-use Rattle.listing.specs.declared.Widths.{Widths}
-use Rattle.listing.specs.Listing.{Spans, shown, line_text, span_line}
-use Rattle.annotated.specs.Faults.{misplaced, faulty, span_fault}
+use Rattle.listing.specs.Listing.{Spans, shown}
+use Rattle.annotated.specs.Annotated.{misplaced, faulty, span_fault}
 
 -- What is not the case where the first of two things is.
 and_left : (a b : Bool) → a && b ≡ false → a ≡ true → b ≡ false
@@ -71,17 +70,6 @@ pub sound_at : (o : FormatAnnotatedOptions) (s : Spans) (firmware protocol : Lis
     → faulty o firmware protocol (get_or s.offsets p 0) (get_or s.sizes p 0) (get_or s.files p 0) (get_or s.starts p 0) (get_or s.ends p 0) ≡ false
 unfolding span_fault
 sound_at o s firmware protocol e p h = first_none _ (length s.offsets) e p h
-
--- The line of a span that is shown, and of one that is hidden.
-pub line_shown : (o : FormatAnnotatedOptions) (w : Widths) (bytes : List ℕ) (len offset size address : ℕ) (excerpt : List ℕ) → shown o size ≡ true
-    → span_line o w bytes len offset size address excerpt ≡ line_text o w bytes len offset size address excerpt
-unfolding span_line
-line_shown o w bytes len offset size address excerpt e = simp e
-
-pub line_hidden : (o : FormatAnnotatedOptions) (w : Widths) (bytes : List ℕ) (len offset size address : ℕ) (excerpt : List ℕ) → shown o size ≡ false
-    → span_line o w bytes len offset size address excerpt ≡ []
-unfolding span_line
-line_hidden o w bytes len offset size address excerpt e = simp e
 
 -- An excerpt is short where both texts are.
 pub excerpt_short : (firmware protocol : List ℕ) (file start end most : ℕ) → length firmware ≤ most → length protocol ≤ most

@@ -1,3 +1,2 @@
 pub mod Annotated
-pub mod Faults
 pub mod InnerListed

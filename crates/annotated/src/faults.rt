@@ -4,7 +4,7 @@ ghost use Rattle.std.specs.Prelude.{◌≡◌, true, false, ◌||◌, ltb, ℕ, 
 ghost use Rattle.ordering.specs.Order.{offset_from};
 ghost use Rattle.sources.specs.Sources.{source, excerpt_of};
 ghost use Rattle.listing.specs.Listing.{lent, location_from, shown};
-ghost use Rattle.annotated.specs.Faults.{misplaced, faulty, span_fault};
+ghost use Rattle.annotated.specs.Annotated.{misplaced, faulty, span_fault};
 
 use listing::{FormatAnnotatedOptions, ListedSpan, ListedSpans, Location};
 use sources::Sources;

@@ -5,9 +5,9 @@ ghost use Rattle.std.specs.Prelude.{◌≡◌, List, [], ◌+◌, ◌≤◌, ◌
 ghost use Rattle.output.specs.Writes.{Writes};
 ghost use Rattle.outcome.specs.Outcome.{in_room, Exports};
 ghost use Rattle.ordering.specs.Order.{in_order};
-ghost use Rattle.listing.specs.Listing.{lent, Narrow, widths_of};
+ghost use Rattle.listing.specs.Listing.{lent, widths_of};
 ghost use Rattle.listing.specs.InnerLine.{line_of};
-ghost use Rattle.annotated.specs.Faults.{span_fault};
+ghost use Rattle.annotated.specs.Annotated.{span_fault};
 
 use crate::faults::{excerpt_at, shown};
 use bitvec::Image;
@@ -24,7 +24,6 @@ pub struct Listed<'a> {
     pub spans: ListedSpans<'a>,
     pub sources: Sources<'a>,
     pub ghost few: { length spans.columns.offsets.now ≤ 4096 },
-    pub ghost narrow: { Narrow layout.widths },
     pub ghost wide: { layout.widths ≡ widths_of layout.options.given spans.columns.offsets.now spans.columns.sizes.now spans.columns.addrs.now (length spans.columns.offsets.now) },
     pub ghost short_firmware: { length sources.firmware.now ≤ 1048576 },
     pub ghost short_protocol: { length sources.protocol.now ≤ 1048576 },
@@ -39,7 +38,7 @@ impl<'a> Listed<'a> {
     // The line of the span at a place, or none where the span is hidden.
     fn line(self, place: usize) -> Option<SpanLine<'a>>
         requires { place < length self.spans.columns.offsets.now }
-        ensures { MatchOption result (shown_line self.entry place ≡ []) (λ s. (line_of s ≡ shown_line self.entry place) × Narrow s.layout.widths × (length s.excerpt.now ≤ 1048576)) }
+        ensures { MatchOption result (shown_line self.entry place ≡ []) (λ s. (line_of s ≡ shown_line self.entry place) × (length s.excerpt.now ≤ 1048576)) }
     {
         let span = self.spans.span(place);
         if !shown(self.layout.options.given, span.size) {

@@ -15,7 +15,7 @@ use Rattle.digits.specs.declared.ByteDigits.TheVariants.{Binary, Hex}
 use Rattle.digits.specs.Bytes.{digits_per_byte, digit_bits, byte_digits}
 use Rattle.digits.specs.Run.{digit_at, run}
 use Rattle.digits.proofs.Run.{run_none, byte_next}
-use Rattle.format_dump.specs.Line.{dump_digit, dump_byte}
+use Rattle.format_dump.specs.Dump.{dump_digit, dump_byte}
 
 -- A byte has a digit for each of its bits, or for each four.
 pub per_byte : (kind : ByteDigits) → 8 / digit_bits kind ≡ digits_per_byte kind

@@ -18,8 +18,7 @@ use Rattle.numbers.proofs.Digits.{number_length, padded_length, count_rises, cou
 use Rattle.digits.specs.declared.ByteDigits.{ByteDigits}
 use Rattle.digits.specs.declared.ByteDigits.TheVariants.{Binary, Hex}
 use Rattle.digits.specs.Bytes.{digits_per_byte, digit_bits}
-use Rattle.format_dump.specs.Line.{dump_char, dump_byte, digit_column, char_column, dump_line}
-use Rattle.format_dump.specs.Dump.{dump_lines, dump_text}
+use Rattle.format_dump.specs.Dump.{dump_char, dump_byte, digit_column, char_column, dump_line, dump_lines, dump_text}
 use Rattle.format_dump.proofs.Bytes.{byte_length}
 
 -- What stands between two bytes, and the bytes of a line in digits.

@@ -1,3 +1,2 @@
 pub mod Dump
 pub mod InnerTexts
-pub mod Line

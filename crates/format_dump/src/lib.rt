@@ -10,9 +10,9 @@ ghost use Rattle.digits.specs.Bytes.{digit_bits};
 ghost use Rattle.format_dump.specs.Dump.{in_range, dump_lines, dump_outcome, bindump, hexdump};
 
 use bitvec::{GoodImage, Image};
+use digits::ByteDigits;
 use line::DumpLine;
 use outcome::{Export, Refusal};
-use digits::ByteDigits;
 
 mod line;
 

@@ -5,11 +5,11 @@ ghost use Rattle.std.specs.Prelude.{cond, ◌≡◌, [], ◌∷◌, List, ℕ, �
 ghost use Rattle.output.specs.Writes.{Writes};
 ghost use Rattle.numbers.specs.Digits.{digit_count};
 ghost use Rattle.digits.specs.Bytes.{digits_per_byte, digit_bits};
-ghost use Rattle.format_dump.specs.Line.{dump_digit, printed, dump_char, dump_byte, char_column, dump_line};
+ghost use Rattle.format_dump.specs.Dump.{dump_digit, char_of, dump_char, dump_byte, digit_column, char_column, dump_line};
 
 use bitvec::{BitOffset, Image};
-use numbers::{DigitWidth, Letters, Radix};
 use digits::ByteDigits;
+use numbers::{DigitWidth, Letters, Radix};
 
 // A line: `count` bytes of an image from byte `first` on, in digits of one kind.
 #[derive(Clone, Copy)]
@@ -23,7 +23,7 @@ pub struct DumpLine<'a> {
 }
 
 // Stores a digit, a point where its first bit is past the end.
-#[tactic(auto, unfolding(crate::specs::Line::dump_digit))]
+#[tactic(auto, unfolding(crate::specs::Dump::dump_digit))]
 fn put_dump_digit(
     out: &mut [u8],
     at: usize,
@@ -49,8 +49,8 @@ fn choose(test: bool, yes: u8, no: u8) -> u8
 
 // The character that a byte is printed as: one choice after the other, so that no branch goes by the byte,
 // which a processor would foresee wrongly.
-fn printed(byte: u8) -> u8
-    ensures { result ≡ printed byte }
+fn char_of(byte: u8) -> u8
+    ensures { result ≡ char_of byte }
 {
     let mut shown = choose(byte == b'|', b'.', byte);
     shown = choose(byte < b' ', b'.', shown);
@@ -62,7 +62,7 @@ fn printed(byte: u8) -> u8
 }
 
 // The character of a byte of the image, a point where its first bit is past the end.
-#[tactic(auto, unfolding(crate::specs::Line::dump_char))]
+#[tactic(auto, unfolding(crate::specs::Dump::dump_char))]
 fn dump_char(image: Image, from: BitOffset) -> u8
     requires { from.0 + 8 < 2 ^ 64 }
     ensures { result ≡ dump_char image.entry.bytes.now image.entry.len from.0 }
@@ -70,7 +70,7 @@ fn dump_char(image: Image, from: BitOffset) -> u8
     if image.len <= from.0 {
         return b'.';
     }
-    printed(image.read_byte(from))
+    char_of(image.read_byte(from))
 }
 
 // The length of a line of `count` bytes whose address is filled to `address` digits.
@@ -84,7 +84,7 @@ pub fn line_length(kind: ByteDigits, count: usize, address: usize) -> usize
 }
 
 impl<'a> DumpLine<'a> {
-    ghost use Rattle.format_dump.specs.InnerTexts.{line_digits, line_text};
+    ghost use Rattle.format_dump.specs.InnerTexts.{written_line};
 
     // Stores the byte of the image from a bit on, in digits, and a space. The digits of a byte that is
     // whole are stored at once: one by one a bindump takes more than twice as long.
@@ -106,8 +106,8 @@ impl<'a> DumpLine<'a> {
 
     // Stores its bytes in digits, each behind what stands between it and the one before it.
     fn put_digit_column(self, out: &mut [u8], at: usize) -> usize
-        requires { at + length (line_digits self) ≤ length out.old }
-        ensures { Writes (line_digits self.entry) out.old at out.new result }
+        requires { at + length (digit_column self.image.bytes.now self.image.len (digit_bits self.kind) self.first self.count) ≤ length out.old }
+        ensures { Writes (digit_column self.entry.image.bytes.now self.entry.image.len (digit_bits self.entry.kind) self.entry.first self.entry.count) out.old at out.new result }
     {
         let mut next = at;
         for j in 0..self.count {
@@ -134,8 +134,8 @@ impl<'a> DumpLine<'a> {
     #[tactic(auto, using(crate::proofs::Lengths::line_written))]
     pub fn put_line(self, out: &mut [u8], at: usize, address: usize) -> usize
         requires fits { digit_count 16 self.first ≤ address }
-        requires room { at + length (line_text self address) ≤ length out.old }
-        ensures { Writes (line_text self.entry address) out.old at out.new result }
+        requires room { at + length (written_line self address) ≤ length out.old }
+        ensures { Writes (written_line self.entry address) out.old at out.new result }
     {
         let mut next = output::put(out, at, b' ');
         next = numbers::put_column(

@@ -21,7 +21,7 @@ use Rattle.output.proofs.Pieces.{pieces_append, pieces_length}
 use Rattle.digits.specs.Run.{digit_at, run}
 use Rattle.listing.specs.declared.ListingOptions.{ListingOptions}
 use Rattle.listing.specs.Listing.{content_digits, content_digit, contents}
-use Rattle.listing.specs.InnerContents.{gap, spaced_digit, digits_from, spaced_group}
+use Rattle.listing.specs.InnerLine.{gap, spaced_digit, digits_from}
 
 -- Nothing stands before a digit within a group, and a space before the first one of a group but the first.
 pub gap_within : (g k turn : ℕ) → turn ≡ k % g → turn ≢ 0 → leading (gap g) k ≡ []
@@ -79,7 +79,7 @@ module _ (o : ListingOptions) (image : Image) (i : ℕ) where
   group_at k = run image.bytes.now image.len w (i + k * (g * w)) g
 
   -- They are a run where the image has them.
-  one_group : (k : ℕ) → i + k * (g * w) + g * w ≤ image.len → pieces (λ j. spaced_digit o image i (k * g + j)) g ≡ spaced_group k (group_at k)
+  one_group : (k : ℕ) → i + k * (g * w) + g * w ≤ image.len → pieces (λ j. spaced_digit o image i (k * g + j)) g ≡ leading (gap 1) k ++ group_at k
   unfolding run
   one_group k h =
       pieces_lead
@@ -98,7 +98,7 @@ module _ (o : ListingOptions) (image : Image) (i : ℕ) where
       inside j l = inside_digit image.bytes.now image.len w (i + k * (g * w) + j * w) (omega (arith, h, stride j g w l))
 
   -- The digits of whole groups.
-  all_groups : (n : ℕ) → (0 < n → i + n * (g * w) ≤ image.len) → pieces (spaced_digit o image i) (n * g) ≡ pieces (λ k. spaced_group k (group_at k)) n
+  all_groups : (n : ℕ) → (0 < n → i + n * (g * w) ≤ image.len) → pieces (spaced_digit o image i) (n * g) ≡ pieces (λ k. leading (gap 1) k ++ group_at k) n
   unfolding pieces
   all_groups zero h = rw (zero-mul g) refl
   all_groups (suc n) h =
@@ -114,7 +114,7 @@ module _ (o : ListingOptions) (image : Image) (i : ℕ) where
   contents_digits size count e = simp zero-add (rw (e, o.bits) refl)
 
   pub contents_parts : (size count n : ℕ) → count ≡ ceil_div size w → n ≤ count / g → n ≤ (image.len - i) / (g * w)
-      → contents o.given image.bytes.now image.len i size ≡ pieces (λ k. spaced_group k (group_at k)) n ++ digits_from o image i (n * g) (count - n * g)
+      → contents o.given image.bytes.now image.len i size ≡ pieces (λ k. leading (gap 1) k ++ group_at k) n ++ digits_from o image i (n * g) (count - n * g)
   contents_parts size count n e l m =
       let few : n * g ≤ count = omega (arith, mul-le-mul_right g l, div-mul-le_self count g) in
       let all : n * g + (count - n * g) ≡ count = omega arith in

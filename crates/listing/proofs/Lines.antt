@@ -3,7 +3,7 @@
 use mathlib.Core.Path.{◌≡◌, refl, ap, ◌∙◌}
 use mathlib.Core.List.{List, ◌++◌}
 use mathlib.Core.Logic.{◌≢◌}
-use Prim.Native.Nat.{ℕ, ◌+◌, ◌-◌, ◌/◌, ◌%◌, max}
+use Prim.Native.Nat.{ℕ, ◌+◌, ◌-◌, ◌/◌, ◌%◌, ◌≤◌, max}
 use Prim.Native.Char.{code}
 use native.Mathlib.Omega.{arith}
 use lib.ListN.{length, replicate, length-append, length-replicate}
@@ -15,8 +15,7 @@ use Rattle.numbers.proofs.Digits.{number_length, padded_length, padded_wider}
 use Rattle.ordering.specs.Order.{absent}
 use Rattle.listing.specs.declared.FormatAnnotatedOptions.{FormatAnnotatedOptions}
 use Rattle.listing.specs.declared.Widths.{Widths}
-use Rattle.listing.specs.Listing.{contents, at_right, at_left, place, position, line_text}
-use Rattle.listing.specs.InnerFits.{SpanFits}
+use Rattle.listing.specs.Listing.{wider, contents, at_right, at_left, place, position, span_text}
 use Rattle.listing.specs.InnerLine.{number_of, position_of, address_of, column_of, line_of}
 use Rattle.listing.specs.declared.line.SpanLine.{SpanLine}
 
@@ -60,9 +59,16 @@ pub position_present : (o : FormatAnnotatedOptions) (w : Widths) (offset : ℕ) 
 unfolding position
 position_present o w offset e = rw (place_present o w.outp offset (offset / 8) (ascii "--") e, place_present o w.outp_bit offset (offset % 8) (ascii "-") e)
 
-pub present_length : (o : FormatAnnotatedOptions) (w : Widths) (offset address : ℕ) → offset ≢ absent → SpanFits o w offset address
+-- The numbers of a span that makes the columns no wider fit in them.
+pub fits : (o : FormatAnnotatedOptions) (w : Widths) (offset size address : ℕ) → wider o w offset size address ≡ w
+    → (digit_count o.addr_base (offset / 8) ≤ w.outp) × (digit_count o.addr_base (offset % 8) ≤ w.outp_bit) × (digit_count o.addr_base address ≤ w.addr)
+unfolding wider
+fits o w offset size address e =
+    (omega (arith, ap (λ (v : Widths). v.outp) e), omega (arith, ap (λ (v : Widths). v.outp_bit) e), omega (arith, ap (λ (v : Widths). v.addr) e))
+
+pub present_length : (o : FormatAnnotatedOptions) (w : Widths) (offset size address : ℕ) → offset ≢ absent → wider o w offset size address ≡ w
     → length (position o w offset) ≡ 2 + w.outp + w.outp_bit
-present_length o w offset address e f =
+present_length o w offset size address e f =
     let byte = number_text Lower o.addr_base (offset / 8) in
     let bit = number_text Lower o.addr_base (offset % 8) in
     omega (
@@ -74,8 +80,7 @@ present_length o w offset address e f =
       padded_length 32 w.outp_bit bit,
       number_length Lower o.addr_base (offset / 8),
       number_length Lower o.addr_base (offset % 8),
-      f.byte_fits e,
-      f.bit_fits e,
+      fits o w offset size address f,
     )
 
 -- The logical address has its column's width, or as many characters as digits where these are more; to its own length it is filled as to
@@ -100,7 +105,7 @@ at_left_length width t =
 pub line_parts : (s : SpanLine)
     → length (line_of s)
     ≡ length (position_of s) + length (address_of s) + max s.layout.widths.content (length (contents s.layout.options.given s.image.bytes.now s.image.len (number_of s) s.span.size)) + length s.excerpt.now + 10
-unfolding line_text
+unfolding span_text
 line_parts s =
     let t₁ = s.excerpt.now ++ ascii "\n" in
     let t₂ = ascii " ; " ++ t₁ in

@@ -1,4 +1,2 @@
 pub mod Listing
-pub mod InnerContents
-pub mod InnerFits
 pub mod InnerLine

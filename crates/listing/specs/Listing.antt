@@ -4,7 +4,7 @@
 --      outp | addr | data (base 16)
 --
 --       0:0 |    0 | 12 ; nop
-use Rattle.std.specs.Prelude.{Bool, Option, None, Some, cond, not, ◌||◌, ℕ, zero, suc, ◌+◌, ◌-◌, ◌*◌, ◌/◌, ◌%◌, ◌≤◌, max, eqb, ltb, length, get_or, replicate}
+use Rattle.std.specs.Prelude.{Bool, Option, None, Some, cond, not, ◌||◌, ℕ, zero, suc, ◌+◌, ◌-◌, ◌*◌, ◌/◌, ◌%◌, max, eqb, ltb, length, get_or, replicate}
 use mathlib.Core.List.{List, [], ◌∷◌, ◌++◌, flat_map}
 use Prim.Native.Char.{code}
 use Rattle.bitvec.specs.Size.{ceil_div}
@@ -56,10 +56,7 @@ location_from file start end = cond (eqb start no_location) None (Some (record {
 unfoldable pub unequal : Spans → Bool
 unequal s =
     let n = length s.offsets in
-    not (eqb n (length s.addrs))
-    || (not (eqb n (length s.files))
-    || (not (eqb n (length s.starts))
-    || not (eqb n (length s.ends))))
+    not (eqb n (length s.addrs)) || (not (eqb n (length s.files)) || (not (eqb n (length s.starts)) || not (eqb n (length s.ends))))
 
 -- Document 01's "shown": a span is hidden when labels are off and its size is 0.
 unfoldable pub shown : FormatAnnotatedOptions → ℕ → Bool
@@ -104,10 +101,6 @@ wider o w offset size address =
       content = max w.content (content_need o size);
     }
 
--- Columns that are narrow, so that a length of them can be counted.
-abbrev pub Narrow : Widths → Type 0
-Narrow w = w.outp + w.outp_bit + w.addr + w.content ≤ 516
-
 -- The widths over the first n spans that have an offset, shown or hidden.
 unfoldable pub widths_of : FormatAnnotatedOptions → List ℕ → List ℕ → List ℕ → ℕ → Widths
 widths_of o offsets sizes addrs zero = narrowest o
@@ -141,26 +134,22 @@ position o w offset =
     ++ (ascii ":" ++ place o w.outp_bit offset (offset % 8) (ascii "-")))
 
 -- The line of a span: its position, its logical address, its contents, and its excerpt.
-unfoldable pub line_text : FormatAnnotatedOptions → Widths → List ℕ → ℕ → ℕ → ℕ → ℕ → List ℕ → List ℕ
-line_text o w bytes len offset size address excerpt =
+unfoldable pub span_text : FormatAnnotatedOptions → Widths → List ℕ → ℕ → ℕ → ℕ → ℕ → List ℕ → List ℕ
+span_text o w bytes len offset size address excerpt =
     position o w offset
     ++ (ascii " | " ++ (at_right w.addr (number_text Lower o.addr_base address)
     ++ (ascii " | " ++ (at_left w.content (contents o bytes len offset size)
     ++ (ascii " ; " ++ (excerpt
     ++ ascii "\n"))))))
 
--- The line of a span that is shown, and nothing for one that is hidden.
-unfoldable pub span_line : FormatAnnotatedOptions → Widths → List ℕ → ℕ → ℕ → ℕ → ℕ → List ℕ → List ℕ
-span_line o w bytes len offset size address excerpt = cond (shown o size) (line_text o w bytes len offset size address excerpt) []
-
--- The line of the span at a place of the lent list.
-unfoldable pub line_at : FormatAnnotatedOptions → Widths → List ℕ → ℕ → Spans → List ℕ → List ℕ → ℕ → List ℕ
-line_at o w bytes len s firmware protocol p =
+-- The line of the span at a place of the lent list where it is shown, and nothing where it is hidden.
+unfoldable pub span_line : FormatAnnotatedOptions → Widths → List ℕ → ℕ → Spans → List ℕ → List ℕ → ℕ → List ℕ
+span_line o w bytes len s firmware protocol p =
     let excerpt = excerpt_of firmware protocol (get_or s.files p 0) (get_or s.starts p 0) (get_or s.ends p 0) in
-    span_line o w bytes len (get_or s.offsets p 0) (get_or s.sizes p 0) (get_or s.addrs p 0) excerpt
+    cond (shown o (get_or s.sizes p 0)) (span_text o w bytes len (get_or s.offsets p 0) (get_or s.sizes p 0) (get_or s.addrs p 0) excerpt) []
 
 -- The heading, and the lines of the spans in order.
 unfoldable pub annotated_text : FormatAnnotatedOptions → List ℕ → ℕ → Spans → List ℕ → List ℕ → List ℕ
 annotated_text o bytes len s firmware protocol =
     let w = widths_of o s.offsets s.sizes s.addrs (length s.offsets) in
-    heading o w ++ flat_map (line_at o w bytes len s firmware protocol) (in_order s.offsets)
+    heading o w ++ flat_map (span_line o w bytes len s firmware protocol) (in_order s.offsets)

@@ -1,11 +1,11 @@
 // The contents of a span: its digits, with a space between groups, and a point for each digit that is
 // not within the image.
 
-ghost use Rattle.std.specs.Prelude.{◌≡◌, List, [], ◌∷◌, ℕ, ◌+◌, ◌%◌, ◌≤◌, ◌<◌, ◌^◌, length};
+ghost use Rattle.std.specs.Prelude.{◌≡◌, List, [], ◌∷◌, ◌++◌, ℕ, ◌+◌, ◌%◌, ◌≤◌, ◌<◌, ◌^◌, length};
 ghost use Rattle.output.specs.Pieces.{leading};
 ghost use Rattle.output.specs.Writes.{Writes};
 ghost use Rattle.listing.specs.Listing.{content_digit, contents};
-ghost use Rattle.listing.specs.InnerContents.{gap, digits_from, spaced_group};
+ghost use Rattle.listing.specs.InnerLine.{gap, digits_from};
 
 use crate::ListingOptions;
 use bitvec::{BitOffset, Image};
@@ -79,7 +79,7 @@ struct SpacedGroups;
 impl PutGroup for SpacedGroups {
     ghost every = { λ _. 1 };
 
-    ghost text = { λ _. spaced_group };
+    ghost text = { λ _ k digits. leading (gap 1) k ++ digits };
 
     fn every(&self) -> usize {
         1

@@ -9,7 +9,7 @@ ghost use Rattle.output.specs.Writes.{Writes};
 ghost use Rattle.digits.specs.Base.{base_bits};
 ghost use Rattle.numbers.specs.Digits.{digit_count, padded};
 ghost use Rattle.ordering.specs.Order.{absent, offset_from};
-ghost use Rattle.listing.specs.Listing.{lent, location_from, unequal, Narrow, out_of_range, bad_annotated, content_need, addr_title, wider, widths_of, heading};
+ghost use Rattle.listing.specs.Listing.{lent, location_from, unequal, out_of_range, bad_annotated, content_need, addr_title, wider, widths_of, heading};
 
 use bitvec::BitOffset;
 pub use line::SpanLine;
@@ -136,8 +136,6 @@ pub struct ListingOptions {
 }
 
 // The widths of the columns: the position's byte and its bit, the logical address, and the contents.
-// That they are narrow is asked where a length is counted alone: as a part of the type it would be asked
-// of each caller.
 #[derive(Clone, Copy)]
 pub struct Widths {
     pub outp: usize,
@@ -146,11 +144,13 @@ pub struct Widths {
     pub content: usize,
 }
 
-// What the lines of a listing have in common: its options, and the widths of its columns.
+// What the lines of a listing have in common: its options, and the widths of its columns. These are
+// narrow, so that a length can be counted.
 #[derive(Clone, Copy)]
 pub struct Layout {
     pub options: ListingOptions,
     pub widths: Widths,
+    pub ghost narrow: { widths.outp + widths.outp_bit + widths.addr + widths.content ≤ 516 },
 }
 
 // Whether an option but the base is outside its range.
@@ -245,7 +245,6 @@ impl Layout {
 
     // The length of the heading.
     pub fn heading_length(self) -> usize
-        requires { Narrow self.widths }
         ensures { (result ≡ length (heading self.options.given self.widths)) × (result ≤ 700) }
     {
         let Layout { options, widths } = self;
@@ -276,7 +275,7 @@ impl Layout {
 // three numbers: three iterators in step are no plainer.
 pub fn column_widths(options: ListingOptions, spans: ListedSpans) -> Widths
     ensures measured { let c = spans.entry.columns in result ≡ widths_of options.given c.offsets.now c.sizes.now c.addrs.now (length c.offsets.now) }
-    ensures small { Narrow result }
+    ensures narrow { result.outp + result.outp_bit + result.addr + result.content ≤ 516 }
 {
     let SpanColumns {
         offsets,

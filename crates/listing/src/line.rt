@@ -1,10 +1,9 @@
 // The line of a span: its position, its logical address, its contents and its excerpt.
 
-ghost use Rattle.std.specs.Prelude.{◌≡◌, ◌+◌, ◌≤◌, ◌<◌, ◌^◌, length, unwrap_or};
+ghost use Rattle.std.specs.Prelude.{◌≡◌, ◌≢◌, ◌+◌, ◌≤◌, ◌<◌, ◌^◌, length, unwrap_or};
 ghost use Rattle.output.specs.Writes.{Writes};
 ghost use Rattle.ordering.specs.Order.{absent};
-ghost use Rattle.listing.specs.Listing.{Narrow};
-ghost use Rattle.listing.specs.InnerFits.{SpanFits};
+ghost use Rattle.listing.specs.Listing.{wider};
 
 use crate::contents::{contents_length, put_contents};
 use crate::{Layout, ListedSpan};
@@ -12,14 +11,15 @@ use bitvec::{BitOffset, Image};
 use numbers::Letters;
 use ordering::ABSENT;
 
-// A span of a listing, in columns that are as wide as its numbers, with its excerpt.
+// A span of a listing, with its excerpt. Its columns are as wide as its numbers: it makes them no wider
+// where it has an offset.
 #[derive(Clone, Copy)]
 pub struct SpanLine<'a> {
     pub image: Image<'a>,
     pub layout: Layout,
     pub span: ListedSpan,
     pub excerpt: &'a [u8],
-    pub ghost fits: { SpanFits layout.options.given layout.widths (unwrap_or span.offset absent) span.addr },
+    pub ghost fits: { unwrap_or span.offset absent ≢ absent → wider layout.options.given layout.widths (unwrap_or span.offset absent) span.size span.addr ≡ layout.widths },
 }
 
 impl<'a> SpanLine<'a> {
@@ -49,7 +49,6 @@ impl<'a> SpanLine<'a> {
 
     // The length of the position.
     fn position_length(self) -> usize
-        requires { Narrow self.layout.widths }
         ensures { (result ≡ length (position_of self.entry)) × (result ≤ 600) }
     {
         let widths = self.layout.widths;
@@ -101,7 +100,7 @@ impl<'a> SpanLine<'a> {
 
     // The length of the line.
     pub fn length(self) -> usize
-        requires { Narrow self.layout.widths × (length self.excerpt.now ≤ 1048576) }
+        requires { length self.excerpt.now ≤ 1048576 }
         ensures { (result ≡ length (line_of self.entry)) × (result < 2 ^ 35) }
     {
         let Layout { options, widths } = self.layout;

@@ -28,7 +28,6 @@ pub invariant_of-listed : goal.invariant_of-listed
 invariant_of-listed c =
     record {
       few = c.requires;
-      narrow = c.column_widths-widths.ensures.small;
       wide = c.column_widths-widths.ensures.measured;
       short_firmware = short_text _ (sym c.bad_text.ensures ∙ c.if-bad_text.false);
       short_protocol = short_text _ (sym c.bad_text-else-bad_text.ensures ∙ c.if-bad_text-2.false);

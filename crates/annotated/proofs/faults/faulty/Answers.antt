@@ -1,7 +1,7 @@
 -- `annotated::faults::faulty` meets its contract: it is shown, and has no excerpt, or a size and no offset.
 -- Assumes nothing.
 use mathlib.Core.Path.{refl, sym, ◌∙◌}
-use Rattle.annotated.specs.Faults.{faulty}
+use Rattle.annotated.specs.Annotated.{faulty}
 use Rattle.annotated.proofs.Sound.{none_is, offset_is}
 use Rattle.annotated.proofs.faults.faulty.Goals as goal
 

@@ -4,7 +4,7 @@ use mathlib.Core.Path.{◌≡◌, sym, ◌∙◌}
 use native.Mathlib.Omega.{arith}
 use lib.ListN.{length}
 use Rattle.output.proofs.Lists.{first_at, first_all}
-use Rattle.annotated.specs.Faults.{span_fault}
+use Rattle.annotated.specs.Annotated.{span_fault}
 use Rattle.annotated.proofs.faults.span_fault.Goals as goal
 
 pub returns-then-faulty : goal.returns-then-faulty

@@ -2,7 +2,7 @@ use mathlib.Core.Path.{◌≡◌}
 use mathlib.Core.Bool.{false}
 use Prim.Native.Nat.{ℕ, ◌<◌}
 use lib.ListN.{get_or}
-use Rattle.annotated.specs.Faults.{faulty}
+use Rattle.annotated.specs.Annotated.{faulty}
 use Rattle.annotated.proofs.faults.span_fault.Given as goal
 
 abbrev pub invariant-loop-p : goal.invariant-loop-p

@@ -10,7 +10,7 @@ use Rattle.numbers.specs.Digits.{digit_count}
 use Rattle.numbers.proofs.Digits.{count_last}
 use Rattle.digits.specs.declared.ByteDigits.{ByteDigits}
 use Rattle.digits.specs.Bytes.{digit_bits}
-use Rattle.format_dump.specs.Line.{dump_line}
+use Rattle.format_dump.specs.Dump.{dump_line}
 use Rattle.format_dump.proofs.Lengths.{line_length, columns_small, text_length, lines_few}
 use Rattle.format_dump.proofs.Dump.length.Goals as goal
 

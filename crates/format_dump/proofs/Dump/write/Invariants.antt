@@ -5,7 +5,7 @@ use lib.ListN.{length}
 use Rattle.output.specs.Pieces.{pieces}
 use Rattle.output.specs.Writes.{Writes}
 use Rattle.digits.specs.Bytes.{digit_bits}
-use Rattle.format_dump.specs.Line.{dump_line}
+use Rattle.format_dump.specs.Dump.{dump_line}
 use Rattle.format_dump.proofs.Dump.write.Given as goal
 
 -- line k

@@ -9,7 +9,7 @@ use Rattle.listing.proofs.Columns.{heading_parts}
 use Rattle.listing.proofs.Layout.heading_length.Goals as goal
 
 pub overflow_add-result-3 : goal.overflow_add-result-3
-overflow_add-result-3 c = omega (arith, c.max-outp.ensures, c.max-addr.ensures, c.title_length.ensures.1, c.requires, c.digit_count-base.ensures, count_small 10 (omega arith) 63 c.args.self.options.given.base (omega arith))
+overflow_add-result-3 c = omega (arith, c.max-outp.ensures, c.max-addr.ensures, c.title_length.ensures.1, c.args.self.narrow, c.digit_count-base.ensures, count_small 10 (omega arith) 63 c.args.self.options.given.base (omega arith))
 
 pub returns : goal.returns
 returns c =
@@ -18,5 +18,5 @@ returns c =
     let title = ap (λ x. length (addr_title x)) o.addresses in
     let small = count_small 10 (omega arith) 63 o.given.base (omega arith) in (
       omega (arith, parts, title, c.max-outp.ensures, c.max-addr.ensures, c.title_length.ensures.0, c.digit_count-base.ensures),
-      omega (arith, c.max-outp.ensures, c.max-addr.ensures, c.title_length.ensures.1, c.requires, c.digit_count-base.ensures),
+      omega (arith, c.max-outp.ensures, c.max-addr.ensures, c.title_length.ensures.1, c.args.self.narrow, c.digit_count-base.ensures),
     )

@@ -12,7 +12,7 @@ use Rattle.output.proofs.Writes.{writes_nothing, writes_then, writes_length}
 use Rattle.listing.specs.declared.ListingOptions.{ListingOptions}
 use Rattle.bitvec.specs.declared.Image.{Image}
 use Rattle.listing.specs.Listing.{content_digit}
-use Rattle.listing.specs.InnerContents.{gap, spaced_digit, digits_from}
+use Rattle.listing.specs.InnerLine.{gap, spaced_digit, digits_from}
 use Rattle.listing.proofs.Digits.{turn_next, turn_anew}
 use Rattle.listing.proofs.contents.put_content_digits.Goals.{then-turn-group, else-turn-group}
 use Rattle.listing.proofs.contents.put_content_digits.Goals as goal

@@ -2,7 +2,7 @@ use mathlib.Core.Path.{◌≡◌}
 use Prim.Native.Nat.{◌+◌, ◌%◌}
 use lib.ListN.{length}
 use Rattle.output.specs.Writes.{Writes}
-use Rattle.listing.specs.InnerContents.{digits_from}
+use Rattle.listing.specs.InnerLine.{digits_from}
 use Rattle.listing.proofs.contents.put_content_digits.Given as goal
 
 abbrev pub invariant-loop-j : goal.invariant-loop-j

@@ -9,11 +9,11 @@ use lib.ListN.{length, length-append}
 use Rattle.bitvec.specs.Size.{ceil_div}
 use Rattle.bitvec.specs.declared.Image.{Image}
 use Rattle.bitvec.proofs.Size.{ceil_most}
-use Rattle.output.specs.Pieces.{pieces}
+use Rattle.output.specs.Pieces.{pieces, leading}
 use Rattle.output.proofs.Writes.{writes_then, room_then}
 use Rattle.listing.specs.declared.ListingOptions.{ListingOptions}
 use Rattle.listing.specs.Listing.{contents}
-use Rattle.listing.specs.InnerContents.{digits_from, spaced_group}
+use Rattle.listing.specs.InnerLine.{gap, digits_from}
 use Rattle.listing.proofs.Digits.{group_at, contents_digits, contents_parts}
 use Rattle.listing.proofs.contents.put_contents.Goals as goal
 
@@ -22,7 +22,7 @@ record Cut (o : ListingOptions) (image : Image) (offset size count n : ℕ) : Ty
   few : n * o.given.digits_per_group ≤ count
   short : count < 2 ^ 32
   parts : contents o.given image.bytes.now image.len offset size
-      ≡ pieces (λ k. spaced_group k (group_at o image offset k)) n ++ digits_from o image offset (n * o.given.digits_per_group) (count - n * o.given.digits_per_group)
+      ≡ pieces (λ k. leading (gap 1) k ++ group_at o image offset k) n ++ digits_from o image offset (n * o.given.digits_per_group) (count - n * o.given.digits_per_group)
 
 cut : (o : ListingOptions) (image : Image) (offset size from count rest n : ℕ) → size < 2 ^ 32 → from ≡ offset → count ≡ ceil_div size o.width.bits
     → rest ≡ image.len - from → n ≡ min (rest / (o.given.digits_per_group * o.width.bits)) (count / o.given.digits_per_group) → Cut o image offset size count n
@@ -62,7 +62,7 @@ put_groups-next-requires-clause-room c =
     let o = a.options in
     let n = c.min-whole.result in
     let k = cut o a.image a.offset a.size _ _ _ n (omega arith) c.from-from.ensures c.parts-count.ensures c.saturating_sub.ensures c.min-whole.ensures in
-    let groups = pieces (λ k. spaced_group k (group_at o a.image a.offset k)) n in
+    let groups = pieces (λ k. leading (gap 1) k ++ group_at o a.image a.offset k) n in
     let rest = digits_from o a.image a.offset (n * o.given.digits_per_group) (c.parts-count.result - n * o.given.digits_per_group) in
     rw c.from-from.ensures (omega (arith, c.requires, ap length k.parts, length-append groups rest))
 

@@ -5,11 +5,11 @@ use mathlib.Core.Bool.{true, false}
 use Prim.Native.Nat.{ℕ, ◌<◌}
 use lib.ListN.{length, get_or}
 use Rattle.ordering.proofs.Numbered.{offset_lent}
-use Rattle.listing.specs.Listing.{lent, line_at, shown}
-use Rattle.annotated.specs.Faults.{misplaced}
+use Rattle.listing.specs.Listing.{lent, span_line, shown}
+use Rattle.annotated.specs.Annotated.{misplaced}
 use Rattle.annotated.specs.declared.listed.Listed.{Listed}
 use Rattle.annotated.proofs.Fits.{fits_at}
-use Rattle.annotated.proofs.Sound.{differ, placed, sound_at, line_shown, line_hidden, excerpt_short}
+use Rattle.annotated.proofs.Sound.{differ, placed, sound_at, excerpt_short}
 use Rattle.annotated.proofs.listed.Listed.line.Goals as goal
 
 -- the location of a span that is shown is in a text
@@ -21,8 +21,8 @@ in_text s place h e =
     e
 
 pub returns-then-not-shown : goal.returns-then-not-shown
-unfolding line_at
-returns-then-not-shown c = line_hidden _ _ _ _ _ _ _ _ (rw c.span-span.ensures.size at (sym c.shown.ensures ∙ c.if-not-shown.true))
+unfolding span_line
+returns-then-not-shown c = simp (rw c.span-span.ensures.size at (sym c.shown.ensures ∙ c.if-not-shown.true))
 
 pub returns-in_err-excerpt : goal.returns-in_err-excerpt
 returns-in_err-excerpt c =
@@ -35,17 +35,16 @@ invariant_of-result c =
     let s = a.spans.columns in
     let span = c.span-span.ensures in
     record {
-      fits = rw (span.offset, offset_lent (get_or s.offsets.now c.args.place 0), span.addr, a.wide) (fits_at a.layout.options.given s.offsets.now s.sizes.now s.addrs.now (length s.offsets.now) c.args.place c.requires);
+      fits = rw (span.offset, offset_lent (get_or s.offsets.now c.args.place 0), span.size, span.addr, a.wide) (fits_at a.layout.options.given s.offsets.now s.sizes.now s.addrs.now (length s.offsets.now) c.args.place c.requires);
     }
 
 pub returns : goal.returns
-unfolding line_at
+unfolding span_line
 returns c =
     let a = c.args.self in
     let span = c.span-span.ensures in
     let text = c.in_ok-excerpt.ensures _ _ _ span.location in
     let seen = rw span.size at (sym c.shown.ensures ∙ c.if-not-shown.false) in (
-      rw (span.offset, offset_lent (get_or a.spans.columns.offsets.now c.args.place 0), span.size, span.addr, text.1) (sym (line_shown _ _ _ _ _ _ _ _ seen)),
-      a.narrow,
+      rw (span.offset, offset_lent (get_or a.spans.columns.offsets.now c.args.place 0), span.size, span.addr, text.1) (simp seen),
       rw text.1 (excerpt_short a.sources.firmware.now a.sources.protocol.now _ _ _ 1048576 a.short_firmware a.short_protocol),
     )

@@ -2,7 +2,7 @@ use mathlib.Core.Path.{◌≡◌}
 use Prim.Native.Nat.{◌+◌}
 use lib.ListN.{length}
 use Rattle.output.specs.Writes.{Writes}
-use Rattle.format_dump.specs.Line.{char_column}
+use Rattle.format_dump.specs.Dump.{char_column}
 use Rattle.format_dump.proofs.line.DumpLine.put_char_column.Given as goal
 
 abbrev pub invariant-loop-j : goal.invariant-loop-j

@@ -8,7 +8,7 @@ use Rattle.output.proofs.Pieces.{pieces_none, pieces_next}
 use Rattle.output.proofs.Writes.{writes_nothing, writes_then}
 use Rattle.digits.specs.Bytes.{digit_bits}
 use Rattle.digits.proofs.Bytes.{byte_length}
-use Rattle.format_dump.specs.Line.{dump_byte}
+use Rattle.format_dump.specs.Dump.{dump_byte}
 use Rattle.format_dump.proofs.Bytes.{per_byte, whole_byte}
 use Rattle.format_dump.proofs.line.DumpLine.put_dump_byte.Goals as goal
 

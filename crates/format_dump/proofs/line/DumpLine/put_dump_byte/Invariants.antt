@@ -5,7 +5,7 @@ use Prim.Native.Nat.{ℕ, ◌+◌, ◌*◌}
 use Rattle.output.specs.Pieces.{pieces}
 use Rattle.output.specs.Writes.{Writes}
 use Rattle.digits.specs.Bytes.{digit_bits}
-use Rattle.format_dump.specs.Line.{dump_digit}
+use Rattle.format_dump.specs.Dump.{dump_digit}
 use Rattle.format_dump.proofs.line.DumpLine.put_dump_byte.Given as goal
 
 -- digit j of the byte from bit i on

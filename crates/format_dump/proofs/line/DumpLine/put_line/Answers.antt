@@ -1,7 +1,7 @@
 -- `format_dump::line::DumpLine::put_line` meets its contract: one writer after another, each with room for what is left of the line.
 -- Assumes nothing.
 use Rattle.output.proofs.Writes.{writes_then}
-use Rattle.format_dump.specs.Line.{dump_line}
+use Rattle.format_dump.specs.Dump.{dump_line}
 use Rattle.format_dump.proofs.line.DumpLine.put_line.Goals as goal
 
 pub returns : goal.returns

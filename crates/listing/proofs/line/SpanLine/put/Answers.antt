@@ -7,7 +7,7 @@ use lib.ListN.{length}
 use Rattle.output.proofs.Writes.{writes_then}
 use Rattle.listing.specs.declared.line.SpanLine.{SpanLine}
 use Rattle.listing.specs.InnerLine.{number_of, position_of, address_of, column_of, line_of}
-use Rattle.listing.specs.Listing.{contents, line_text}
+use Rattle.listing.specs.Listing.{contents, span_text}
 use Rattle.listing.proofs.Lines.{at_left_length, line_parts}
 use Rattle.listing.proofs.line.SpanLine.put.Goals as goal
 
@@ -42,7 +42,7 @@ pub put-requires : goal.put-requires
 put-requires c = omega (arith, c.requires, parts c.args.self)
 
 pub returns : goal.returns
-unfolding line_text
+unfolding span_text
 returns c =
     writes_then c.put_position-next.ensures
     (writes_then c.put_all-next.ensures

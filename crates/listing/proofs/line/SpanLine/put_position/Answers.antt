@@ -13,8 +13,7 @@ use Rattle.numbers.proofs.Digits.{number_length, padded_length}
 use Rattle.listing.specs.Listing.{at_right}
 use Rattle.listing.specs.InnerLine.{number_of, position_of}
 use Rattle.listing.specs.declared.line.SpanLine.{SpanLine}
-use Rattle.listing.specs.InnerFits.{SpanFits}
-use Rattle.listing.proofs.Lines.{position_parts, position_absent, position_present, absent_length, present_length}
+use Rattle.listing.proofs.Lines.{fits, position_parts, position_absent, position_present, absent_length, present_length}
 use Rattle.listing.proofs.line.SpanLine.put_position.Goals as goal
 
 -- the room for dashes, and for the numbers of an offset
@@ -27,14 +26,13 @@ numbers_room : (s : SpanLine) (offset at room : ℕ) → s.span.offset ≡ Some 
     → at + length (position_of s) ≤ room
     → at + (2 + s.layout.widths.outp + s.layout.widths.outp_bit) ≤ room
 numbers_room s offset at room e h =
-    rw (← present_length s.layout.options.given s.layout.widths offset s.span.addr (s.span.there offset e) (rw e at s.fits)) (rw e at h)
+    rw (← present_length s.layout.options.given s.layout.widths offset s.span.size s.span.addr (s.span.there offset e) ((rw e at s.fits) (s.span.there offset e))) (rw e at h)
 
 -- the length of the first number
 byte_length : (s : SpanLine) (offset byte : ℕ) → s.span.offset ≡ Some offset → byte ≡ offset / 8
     → length (at_right s.layout.widths.outp (number_text Lower s.layout.options.radix.value byte)) ≡ s.layout.widths.outp
 byte_length s offset byte e f =
-    let fits : SpanFits s.layout.options.given s.layout.widths offset s.span.addr = rw e at s.fits in
-    let short = rw (← s.layout.options.addresses) at (fits.byte_fits (s.span.there offset e)) in
+    let short = rw (← s.layout.options.addresses) at (fits _ _ _ _ _ ((rw e at s.fits) (s.span.there offset e))).0 in
     let text = number_text Lower s.layout.options.radix.value (offset / 8) in
     rw f (omega (arith, short, padded_length 32 s.layout.widths.outp text, number_length Lower s.layout.options.radix.value (offset / 8)))
 
@@ -61,9 +59,8 @@ returns-in_default c =
 
 pub put_column-next-requires : goal.put_column-next-requires
 put_column-next-requires c =
-    let a = c.args.self in
-    let fits : SpanFits a.layout.options.given a.layout.widths c.in-Some.offset a.span.addr = rw c.in-Some.is at a.fits in (
-      rw (c.byte-byte.ensures, c.from-from.ensures, a.layout.options.addresses) (fits.byte_fits (a.span.there _ c.in-Some.is)),
+    let a = c.args.self in (
+      rw (c.byte-byte.ensures, c.from-from.ensures, a.layout.options.addresses) (fits _ _ _ _ _ ((rw c.in-Some.is at a.fits) (a.span.there _ c.in-Some.is))).0,
       omega (arith, numbers_room a _ c.args.at _ c.in-Some.is c.requires),
     )
 
@@ -72,9 +69,8 @@ put-next-requires-2 c = omega (arith, byte_length c.args.self _ _ c.in-Some.is (
 
 pub put_column-requires : goal.put_column-requires
 put_column-requires c =
-    let a = c.args.self in
-    let fits : SpanFits a.layout.options.given a.layout.widths c.in-Some.offset a.span.addr = rw c.in-Some.is at a.fits in (
-      rw (c.shift-bit.ensures, c.from-from.ensures, a.layout.options.addresses) (fits.bit_fits (a.span.there _ c.in-Some.is)),
+    let a = c.args.self in (
+      rw (c.shift-bit.ensures, c.from-from.ensures, a.layout.options.addresses) (fits _ _ _ _ _ ((rw c.in-Some.is at a.fits) (a.span.there _ c.in-Some.is))).1,
       omega (arith, byte_length a _ _ c.in-Some.is (rw c.from-from.ensures at c.byte-byte.ensures), numbers_room a _ c.args.at _ c.in-Some.is c.requires),
     )
 
