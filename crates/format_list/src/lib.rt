@@ -6,7 +6,7 @@ ghost use Rattle.std.specs.Prelude.{◌≡◌, true, false, MatchOption, ◌||�
 ghost use Rattle.output.specs.Pieces.{pieces, leading};
 ghost use Rattle.output.specs.Writes.{Writes};
 ghost use Rattle.outcome.specs.Outcome.{too_long, Exports};
-ghost use Rattle.digits.specs.Base.{base_bits};
+ghost use Rattle.digits.specs.Bytes.{base_bits};
 ghost use Rattle.format_list.specs.List.{list_outcome};
 ghost use Rattle.format_list.specs.InnerGroups.{bad_given, every_of, second_of, between_of, count_of, list_of};
 
