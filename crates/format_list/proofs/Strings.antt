@@ -17,7 +17,11 @@ use Rattle.digits.specs.Run.{run}
 use Rattle.format_list.specs.declared.shape.ListOptions.{ListOptions}
 use Rattle.format_list.specs.declared.shape.ListGroups.{ListGroups}
 use Rattle.format_list.specs.List.{group_text, between_groups}
-use Rattle.format_list.specs.InnerGroups.{every_of, second_of, between_of}
+use Rattle.format_list.specs.InnerGroups.{every_of, between_of}
+
+-- The second string, or the first where there is none.
+abbrev pub second_of : ListOptions → List ℕ
+second_of o = cond (eqb (length o.strings.between2.now) 0) o.strings.between.now o.strings.between2.now
 
 -- Before group k.
 pub between_either : (o : ListOptions) (k : ℕ) → between_of o k ≡ cond (eqb (k % every_of o) 0) (second_of o) o.strings.between.now

@@ -7,5 +7,6 @@ use Rattle.hex_records.specs.Text.{bytes_from}
 
 abbrev pub chunk_of : DataRecord → Chunk
 chunk_of r = record { address = r.address.0; from = r.from.0; count = r.count }
+
 abbrev pub data_of : Image → DataRecord → List ℕ
 data_of image r = bytes_from image.bytes.now image.len r.from.0 r.count

@@ -9,6 +9,7 @@ use Rattle.image_parts.specs.Parts.{part_bits}
 unfoldable pub part_text : ByteDigits → List ℕ → ℕ → ℕ → (ℕ → List ℕ) → ℕ → List ℕ
 part_text kind bytes len width tail k =
     line_text kind bytes len (k * width) (part_bits len width k) ++ tail (k * width + part_bits len width k)
+
 abbrev pub parts_text : ByteDigits → List ℕ → ℕ → ℕ → (ℕ → List ℕ) → ℕ → List ℕ
 parts_text kind bytes len width tail n = pieces (part_text kind bytes len width tail) n
 

@@ -8,7 +8,9 @@ use Rattle.intelhex.specs.declared.plan.HexPlan.{HexPlan}
 
 abbrev pub block_of : Lent → Block
 block_of b = record { offset = b.offset; size = b.size }
+
 abbrev pub records_of : Lent → AddressUnit → List Chunk
 records_of b unit = block_plan unit.bits (block_of b)
+
 abbrev pub plan_of : HexPlan → List Chunk
 plan_of p = hex_plan p.unit.bits (blocks_at p.blocks.offsets.now p.blocks.sizes.now)
