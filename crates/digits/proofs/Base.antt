@@ -6,7 +6,7 @@ use Prim.Native.Nat.{ℕ, ◌^◌, ◌≤◌}
 use native.Mathlib.Omega.{arith}
 use lib.Dec.{eqb}
 use borrow.Author.Tests.{eqb-true}
-use Rattle.digits.specs.Base.{base_bits}
+use Rattle.digits.specs.Bytes.{base_bits}
 
 -- One base of the list: what holds of its bits and of those of the bases behind it holds of all.
 one_base : (P : ℕ → Type 0) (base b bits rest : ℕ) → (base ≡ b → P bits) → P rest → P (cond (eqb base b) bits rest)

@@ -1,5 +1,5 @@
--- A byte in digits (document 01, modules 2 to 6 and 9): what the digits of whole bytes are made of.
-use Rattle.std.specs.Prelude.{List, ℕ}
+-- A byte in digits, and the bases that digits of whole bits have (document 01, modules 2 to 6 and 9; the Rust's `(base - 1).count_ones()`).
+use Rattle.std.specs.Prelude.{cond, List, ℕ, eqb}
 use Rattle.numbers.specs.declared.Letters.TheVariants.{Lower}
 use Rattle.numbers.specs.Digits.{byte_text, digits_of}
 use Rattle.digits.specs.declared.ByteDigits.{ByteDigits}
@@ -19,3 +19,13 @@ digit_bits Hex = 4
 unfoldable pub byte_digits : ByteDigits → ℕ → List ℕ
 byte_digits Binary b = digits_of 1 8 b
 byte_digits Hex b = byte_text Lower b
+
+-- How many bits a digit has in base 2, 4, 8, 16 or 32; 0 for any other number, which is no base here.
+unfoldable pub base_bits : ℕ → ℕ
+base_bits base =
+    cond (eqb base 2) 1
+    (cond (eqb base 4) 2
+    (cond (eqb base 8) 3
+    (cond (eqb base 16) 4
+    (cond (eqb base 32) 5
+    0))))

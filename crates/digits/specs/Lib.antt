@@ -1,4 +1,3 @@
-pub mod Base
 pub mod Bytes
 pub mod Run
 pub mod InnerRun

@@ -4,8 +4,7 @@
 
 ghost use Rattle.std.specs.Prelude.{MatchOption, IfSome, ◌≡◌, ◌≢◌, [], ◌∷◌, ◌+◌, ◌*◌, ◌/◌, ◌≤◌, ◌<◌, ◌^◌, min, length};
 ghost use Rattle.output.specs.Writes.{Writes};
-ghost use Rattle.digits.specs.Base.{base_bits};
-ghost use Rattle.digits.specs.Bytes.{digits_per_byte, digit_bits, byte_digits};
+ghost use Rattle.digits.specs.Bytes.{base_bits, digits_per_byte, digit_bits, byte_digits};
 ghost use Rattle.digits.specs.InnerRun.{run_of};
 ghost use Rattle.digits.specs.Run.{digit_at, run, short_digit, hex_line, line_text};
 
@@ -16,7 +15,7 @@ use numbers::{DigitWidth, Letters};
 mod digit_run;
 
 // How many bits a digit has in base 2, 4, 8, 16 or 32; any other number is no base.
-#[tactic(auto, unfolding(crate::specs::Base::base_bits))]
+#[tactic(auto, unfolding(crate::specs::Bytes::base_bits))]
 pub fn base_bits(base: usize) -> Option<DigitWidth>
     ensures { MatchOption result (base_bits base ≡ 0) (λ w. (w.bits ≡ base_bits base) × (0 < w.bits)) }
 {

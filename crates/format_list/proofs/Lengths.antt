@@ -4,14 +4,20 @@ use mathlib.Core.Path.{◌≡◌, sym}
 use Prim.Native.Nat.{ℕ, ◌+◌, ◌*◌}
 use native.Mathlib.Omega.{arith}
 use lib.ListN.{length, length-append}
+use Rattle.bitvec.specs.Size.{ceil_div}
 use Rattle.output.specs.Pieces.{pieces, leading, joined}
 use Rattle.output.proofs.Pieces.{pieces_length}
 use Rattle.output.proofs.Joined.{joined_length}
-use Rattle.digits.specs.Base.{base_bits}
+use Rattle.digits.specs.Bytes.{base_bits}
 use Rattle.digits.proofs.Run.{run_length}
 use Rattle.format_list.specs.declared.shape.ListGroups.{ListGroups}
 use Rattle.format_list.specs.List.{group_bits, group_text, list_text}
-use Rattle.format_list.specs.InnerGroups.{between_of, list_group, count_of, list_of}
+use Rattle.format_list.specs.InnerGroups.{between_of, list_of}
+use Rattle.format_list.proofs.Strings.{list_group}
+
+-- How many groups hold the image.
+abbrev pub count_of : ListGroups → ℕ
+count_of g = ceil_div g.good.image.len (group_bits g.options.given)
 
 -- A group has its digits.
 group_length : (g : ListGroups) (k : ℕ) → length (list_group g k) ≡ g.options.given.digits_per_group

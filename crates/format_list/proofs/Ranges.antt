@@ -12,7 +12,7 @@ use lib.ListN.{length}
 use borrow.Author.Tests.{eq-eqb, eqb-true, not-false}
 use Rattle.outcome.specs.Outcome.{outside, too_long}
 use Rattle.outcome.proofs.Outcome.{inside, short}
-use Rattle.digits.specs.Base.{base_bits}
+use Rattle.digits.specs.Bytes.{base_bits}
 use Rattle.format_list.specs.declared.FormatListOptions.{FormatListOptions}
 use Rattle.format_list.specs.List.{group_bits, bad_list}
 

@@ -12,12 +12,16 @@ use borrow.Author.Tests.{eqb-false}
 use Rattle.output.specs.Pieces.{pieces, leading, joined}
 use Rattle.output.proofs.Pieces.{pieces_equal}
 use Rattle.output.proofs.Joined.{either_length}
-use Rattle.digits.specs.Base.{base_bits}
+use Rattle.digits.specs.Bytes.{base_bits}
 use Rattle.digits.specs.Run.{run}
 use Rattle.format_list.specs.declared.shape.ListOptions.{ListOptions}
 use Rattle.format_list.specs.declared.shape.ListGroups.{ListGroups}
 use Rattle.format_list.specs.List.{group_text, between_groups}
-use Rattle.format_list.specs.InnerGroups.{every_of, second_of, between_of, list_group}
+use Rattle.format_list.specs.InnerGroups.{every_of, between_of}
+
+-- The second string, or the first where there is none.
+abbrev pub second_of : ListOptions → List ℕ
+second_of o = cond (eqb (length o.strings.between2.now) 0) o.strings.between.now o.strings.between2.now
 
 -- Before group k.
 pub between_either : (o : ListOptions) (k : ℕ) → between_of o k ≡ cond (eqb (k % every_of o) 0) (second_of o) o.strings.between.now
@@ -51,6 +55,10 @@ second_short o = go (eqb (length o.strings.between2.now) 0)
     go : (t : Bool) → length (cond t o.strings.between.now o.strings.between2.now) ≤ 256
     go true = o.inner.0
     go false = o.inner.1
+
+-- The digits of group k.
+abbrev pub list_group : ListGroups → ℕ → List ℕ
+list_group g = group_text g.options.given g.good.image.bytes.now g.good.image.len
 
 -- All groups.
 pub groups_joined : (g : ListGroups) (n : ℕ)

@@ -1,35 +1,21 @@
 -- The groups of a list as the code has them. No format is defined by it.
 use Rattle.std.specs.Prelude.{Bool, cond, List, ℕ, eqb, length}
-use Rattle.bitvec.specs.Size.{ceil_div}
 use Rattle.format_list.specs.declared.FormatListOptions.{FormatListOptions}
 use Rattle.format_list.specs.declared.ListStrings.{ListStrings}
 use Rattle.format_list.specs.declared.shape.ListOptions.{ListOptions}
 use Rattle.format_list.specs.declared.shape.ListGroups.{ListGroups}
-use Rattle.format_list.specs.List.{group_bits, group_text, between_groups, list_text, bad_list}
+use Rattle.format_list.specs.List.{between_groups, list_text, bad_list}
 
 -- Whether options and strings are outside their ranges.
 abbrev pub bad_given : FormatListOptions → ListStrings → Bool
 bad_given o s = bad_list o s.before.now s.after.now s.between.now s.between2.now
 
--- How many groups there are from one second string to the next: 1, where there is none.
+-- How many groups there are from one second string to the next, 1 where there is none; and what stands before group k.
 abbrev pub every_of : ListOptions → ℕ
 every_of o = cond (eqb (length o.strings.between2.now) 0) 1 o.given.groups_per_group2
 
--- What stands before each group whose number every_of divides: the second string, or the first where there is none.
-abbrev pub second_of : ListOptions → List ℕ
-second_of o = cond (eqb (length o.strings.between2.now) 0) o.strings.between.now o.strings.between2.now
-
--- What stands before group k.
 abbrev pub between_of : ListOptions → ℕ → List ℕ
 between_of o = between_groups o.given o.strings.between.now o.strings.between2.now
-
--- The digits of group k.
-abbrev pub list_group : ListGroups → ℕ → List ℕ
-list_group g = group_text g.options.given g.good.image.bytes.now g.good.image.len
-
--- How many groups hold the image.
-abbrev pub count_of : ListGroups → ℕ
-count_of g = ceil_div g.good.image.len (group_bits g.options.given)
 
 -- The list.
 abbrev pub list_of : ListGroups → List ℕ

@@ -3,7 +3,7 @@ use Rattle.std.specs.Prelude.{Bool, cond, not, ◌||◌, ◌&&◌, List, ◌++�
 use Rattle.bitvec.specs.Size.{bad_size, ceil_div}
 use Rattle.output.specs.Pieces.{joined}
 use Rattle.outcome.specs.Outcome.{Outcome, refused, outside, too_long, in_room}
-use Rattle.digits.specs.Base.{base_bits}
+use Rattle.digits.specs.Bytes.{base_bits}
 use Rattle.digits.specs.Run.{run}
 use Rattle.format_list.specs.declared.FormatListOptions.{FormatListOptions}
 

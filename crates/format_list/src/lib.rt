@@ -2,13 +2,14 @@
 // answers a text and its length, or refusal 1, 2 or 8.
 #![tactic(auto)]
 
-ghost use Rattle.std.specs.Prelude.{◌≡◌, true, false, MatchOption, ◌||◌, ◌++◌, ◌+◌, ◌*◌, ◌%◌, ◌≤◌, ◌<◌, ◌^◌, length};
+ghost use Rattle.std.specs.Prelude.{◌≡◌, true, false, cond, eqb, MatchOption, ◌||◌, ◌++◌, ◌+◌, ◌*◌, ◌%◌, ◌≤◌, ◌<◌, ◌^◌, length};
+ghost use Rattle.bitvec.specs.Size.{ceil_div};
 ghost use Rattle.output.specs.Pieces.{pieces, leading};
 ghost use Rattle.output.specs.Writes.{Writes};
 ghost use Rattle.outcome.specs.Outcome.{too_long, Exports};
-ghost use Rattle.digits.specs.Base.{base_bits};
-ghost use Rattle.format_list.specs.List.{list_outcome};
-ghost use Rattle.format_list.specs.InnerGroups.{bad_given, every_of, second_of, between_of, count_of, list_of};
+ghost use Rattle.digits.specs.Bytes.{base_bits};
+ghost use Rattle.format_list.specs.List.{group_bits, list_outcome};
+ghost use Rattle.format_list.specs.InnerGroups.{bad_given, every_of, between_of, list_of};
 
 use bitvec::{BitOffset, Image};
 use digit_groups::{DigitGroups, PutGroup};
@@ -78,7 +79,7 @@ impl<'a> ListOptions<'a> {
     // What stands before each group whose number `every` divides: the second string, or the first where
     // there is none.
     fn second(&self) -> &'a [u8]
-        ensures { result.now ≡ second_of self.now }
+        ensures { result.now ≡ cond (eqb (length self.now.strings.between2.now) 0) self.now.strings.between.now self.now.strings.between2.now }
     {
         if self.strings.between2.is_empty() {
             return self.strings.between;
@@ -133,7 +134,7 @@ impl<'a> PutGroup for ListOptions<'a> {
 impl<'a> ListGroups<'a> {
     // How many groups hold the image.
     fn count(self) -> usize
-        ensures { (result ≡ count_of self.entry) × (result ≤ 16777216) }
+        ensures { (result ≡ ceil_div self.entry.good.image.len (group_bits self.entry.options.given)) × (result ≤ 16777216) }
     {
         let size = self.options.given.digits_per_group * self.options.width.bits;
         bitvec::parts(self.good.image.len, size)

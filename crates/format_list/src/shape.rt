@@ -1,7 +1,7 @@
 // The list as a value: its image and its options, which are in their range.
 
 ghost use Rattle.std.specs.Prelude.{◌≡◌, ◌≤◌, ◌<◌, length};
-ghost use Rattle.digits.specs.Base.{base_bits};
+ghost use Rattle.digits.specs.Bytes.{base_bits};
 
 use crate::{FormatListOptions, ListStrings};
 use bitvec::GoodImage;

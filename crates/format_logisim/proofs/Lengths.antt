@@ -21,7 +21,7 @@ use Rattle.digits.specs.declared.ByteDigits.TheVariants.{Hex}
 use Rattle.digits.specs.Run.{line_text}
 use Rattle.digits.proofs.Run.{line_length}
 use Rattle.image_parts.specs.InnerParts.{part_text, parts_text}
-use Rattle.format_logisim.specs.Logisim.{chunk_text, chunk_at, logisim_text}
+use Rattle.format_logisim.specs.Logisim.{chunk_text, logisim_chunk, logisim_text}
 use Rattle.format_logisim.specs.InnerBreaks.{breaks}
 
 -- The file is the first line and the parts of the image, with what stands behind each.
@@ -92,13 +92,13 @@ breaks_lines width (suc q) r =
 
 -- The length of n chunks, all of them whole.
 pub whole_length : (bytes : List ℕ) (len width n : ℕ) → n * width ≤ len
-    → length (pieces (chunk_at bytes len width) n) ≡ n * ((width + 3) / 4 + 1) + breaks width n
+    → length (pieces (logisim_chunk bytes len width) n) ≡ n * ((width + 3) / 4 + 1) + breaks width n
 unfolding pieces breaks part_bits
 whole_length bytes len width zero h = rw zero-mul
 whole_length bytes len width (suc n) h =
     let more = suc-mul n width in
     let all : min width (len - n * width) ≡ width = omega arith in
-    length-append (pieces (chunk_at bytes len width) n) (chunk_at bytes len width n)
+    length-append (pieces (logisim_chunk bytes len width) n) (logisim_chunk bytes len width n)
     ∙ rw (whole_length bytes len width n (omega arith), all, chunk_length bytes len (n * width) width) (omega (arith, suc-mul n ((width + 3) / 4 + 1)))
 
 -- The chunks that the image fills are not long.
@@ -114,7 +114,7 @@ pub text_whole : (bytes : List ℕ) (len width : ℕ) → 0 < width → len % wi
 unfolding logisim_text
 text_whole bytes len width p e =
     rw (ceil_whole len width p e)
-    (length-append (ascii "v2.0 raw\n") (pieces (chunk_at bytes len width) (len / width))
+    (length-append (ascii "v2.0 raw\n") (pieces (logisim_chunk bytes len width) (len / width))
     ∙ omega (arith, whole_length bytes len width (len / width) (div-mul-le_self len width)))
 
 -- The file, where the last one is shorter.
@@ -125,7 +125,7 @@ unfolding logisim_text part_bits
 text_short bytes len width p n =
     let start : len / width * width ≡ len - len % width = omega (arith, div-add-mod' len width) in
     let short : min width (len - (len - len % width)) ≡ len % width = omega (arith, div-add-mod' len width, mod-lt len p) in
-    let front = pieces (chunk_at bytes len width) (len / width) in
+    let front = pieces (logisim_chunk bytes len width) (len / width) in
     let last = chunk_text bytes len (len - len % width) (len % width) in
     rw (ceil_short len width p (omega (arith, n)), pieces_next, start, short)
     (omega (arith, length-append (ascii "v2.0 raw\n") (front ++ last), length-append front last, whole_length bytes len width (len / width) (div-mul-le_self len width)))

@@ -13,12 +13,12 @@ unfoldable pub chunk_text : List ℕ → ℕ → ℕ → ℕ → List ℕ
 chunk_text bytes len i m = hex_line bytes len i m ++ (ascii " " ++ every 16 ((i + m) / 8) (ascii "\n"))
 
 -- Chunk k of width bits each, the last one perhaps shorter.
-abbrev pub chunk_at : List ℕ → ℕ → ℕ → ℕ → List ℕ
-chunk_at bytes len width k = chunk_text bytes len (k * width) (part_bits len width k)
+abbrev pub logisim_chunk : List ℕ → ℕ → ℕ → ℕ → List ℕ
+logisim_chunk bytes len width k = chunk_text bytes len (k * width) (part_bits len width k)
 
 -- The first line, and the chunks that hold the image.
 unfoldable pub logisim_text : List ℕ → ℕ → ℕ → List ℕ
-logisim_text bytes len width = ascii "v2.0 raw\n" ++ pieces (chunk_at bytes len width) (ceil_div len width)
+logisim_text bytes len width = ascii "v2.0 raw\n" ++ pieces (logisim_chunk bytes len width) (ceil_div len width)
 
 unfoldable pub logisim_outcome : List ℕ → ℕ → ℕ → ℕ → Outcome
 logisim_outcome bytes len width room =

@@ -1,9 +1,8 @@
 -- The binary file of an image (document 01, module 2; the Rust's `format_binary`).
-use Rattle.std.specs.Prelude.{Bool, false, cond, not, List, [], ◌∷◌, ℕ, ◌%◌, eqb}
+use Rattle.std.specs.Prelude.{Bool, false, cond, not, List, [], ◌∷◌, Result, Ok, Err, ℕ, ◌%◌, eqb}
 use Rattle.bitvec.specs.Bits.{byte_at}
 use Rattle.bitvec.specs.Size.{bad_size, ceil_div}
 use Rattle.output.specs.Pieces.{pieces}
-use Rattle.std.specs.Prelude.{Result, Ok, Err}
 use Rattle.outcome.specs.declared.Refusal.{Refusal}
 use Rattle.outcome.specs.Outcome.{Outcome, text, refused, in_room}
 use Rattle.format_plain.specs.declared.binary.Binary.{Binary}

@@ -13,8 +13,7 @@ use Rattle.output.specs.Lists.{Each}
 use Rattle.output.proofs.Lists.{each_append}
 use Rattle.hex_records.specs.Plan.{Chunk}
 use Rattle.hex_records.specs.Text.{bytes_from, total, checksum, record_bytes, hex_bytes, record_text, hex_text}
-use Rattle.hex_records.specs.Intel.{Record, digit_value, pairs, type_good, fields, one_record, before_first, lines, records_on, ended, records}
-use Rattle.hex_records.specs.Decoded.{data_record, end_record}
+use Rattle.hex_records.specs.Intel.{Record, digit_value, pairs, type_good, fields, one_record, before_first, lines, records_on, ended, records, data_record, end_record}
 use Rattle.hex_records.proofs.Text.{bytes_length, bytes_small, checksum_small, sums_to_zero, record_length}
 
 -- A digit's character has the digit's value.

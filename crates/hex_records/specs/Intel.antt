@@ -4,7 +4,8 @@
 use Rattle.std.specs.Prelude.{ℕ, ◌+◌, ◌-◌, ◌*◌, ◌%◌, Bool, false, cond, ◌&&◌, ◌||◌, List, [], ◌∷◌, length, take, ◌==◌, nat_le}
 use Rattle.std.proofs.Math.Option.{Option, none, some, bind}
 use Prim.Native.Char.{code}
-use Rattle.hex_records.specs.Text.{total}
+use Rattle.hex_records.specs.Plan.{Chunk}
+use Rattle.hex_records.specs.Text.{total, bytes_from}
 
 pub record Record : Type 0 where
   pub record_type : ℕ
@@ -74,3 +75,10 @@ ended (r ∷ s ∷ rest) = r.record_type == 0 && ended (s ∷ rest)
 -- The records of a file.
 unfoldable pub records : List ℕ → Option (List Record)
 records t = bind (records_on (lines t)) (λ rs. cond (ended rs) (some rs) none)
+
+-- What a reader finds in the text of a plan: the record that a chunk stands for, and the end record.
+unfoldable pub data_record : List ℕ → ℕ → Chunk → Record
+data_record bytes len c = record { record_type = 0; load_offset = c.address; content = bytes_from bytes len c.from c.count }
+
+unfoldable pub end_record : Record
+end_record = record { record_type = 1; load_offset = 0; content = [] }

@@ -1,5 +1,4 @@
 pub mod Plan
 pub mod Text
 pub mod Intel
-pub mod Decoded
 pub mod InnerLent

@@ -5,12 +5,11 @@ use Rattle.digits.specs.declared.ByteDigits.{ByteDigits}
 use Rattle.digits.specs.Run.{run, line_text}
 use Rattle.image_parts.specs.Parts.{part_bits}
 
--- The digits of part k, and what stands behind them.
+-- The digits of part k and what stands behind them, and the text of the first n parts.
 unfoldable pub part_text : ByteDigits → List ℕ → ℕ → ℕ → (ℕ → List ℕ) → ℕ → List ℕ
 part_text kind bytes len width tail k =
     line_text kind bytes len (k * width) (part_bits len width k) ++ tail (k * width + part_bits len width k)
 
--- The first n parts.
 abbrev pub parts_text : ByteDigits → List ℕ → ℕ → ℕ → (ℕ → List ℕ) → ℕ → List ℕ
 parts_text kind bytes len width tail n = pieces (part_text kind bytes len width tail) n
 

@@ -17,8 +17,7 @@ use Rattle.span_list.specs.Range.{long_list, fault_at}
 use Rattle.blocks.specs.Blocks.{blocks_of}
 use Rattle.hex_records.specs.Plan.{Chunk, hex_plan, too_high}
 use Rattle.hex_records.specs.Text.{hex_text}
-use Rattle.hex_records.specs.Intel.{records}
-use Rattle.hex_records.specs.Decoded.{data_record, end_record}
+use Rattle.hex_records.specs.Intel.{records, data_record, end_record}
 use Rattle.hex_records.proofs.Decoded.{decodes}
 use Rattle.hex_records.proofs.Plan.{Low, low_each, plan_counts}
 use Rattle.intelhex.specs.Hex.{plan_outcome, hex_outcome}

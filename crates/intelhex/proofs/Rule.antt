@@ -23,7 +23,7 @@ use Rattle.hex_records.specs.Text.{hex_text}
 use Rattle.hex_records.proofs.Decoded.{Same as SameBytes, same_data, equal_text, hex_lengths}
 use Rattle.hex_records.proofs.Plan.{Low, low_each, plan_counts}
 use Rattle.intelhex.specs.Hex.{plan_outcome, hex_outcome}
-use Rattle.intelhex.specs.TwoImages.{Agree, Same, SameAnswered, SameAnswers, refused_alike, texts, refused_both, texts_both, both_refused, both_texts}
+use Rattle.intelhex.specs.TwoImages.{Agree, Same, SameAnswered, refused_alike, texts, refused_both, texts_both}
 use Rattle.intelhex.proofs.Cover.{plan_covers}
 
 -- The rule over a plan, of records of at most 255 bytes as Intel allows: whatever A says in terms of the plan's bytes, the texts say.
@@ -94,16 +94,3 @@ same_answered o₁ o₂ a₁ a₂ before₁ after₁ before₂ after₂ A f₁ f
     let q₂ : take (length t₁) after₂ ≡ t₂ = rw l q.1 in
     texts_both (length t₁) p.0 (q.0 ∙ ap (λ (n : ℕ). record { number = 0; value = n }) (sym l))
     (λ e. s.0 (sym p.1 ∙ e ∙ q₂), λ a. p.1 ∙ s.1 a ∙ sym q₂)
-
--- Answers that are cases of the enum.
-of_cases : (r₁ r₂ : Result ℕ Refusal) (out₁ out₂ : List ℕ) (A : Type 0) → SameAnswered (answer_of r₁) (answer_of r₂) out₁ out₂ A → SameAnswers r₁ r₂ out₁ out₂ A
-of_cases r₁ r₂ out₁ out₂ A (refused_both n v z e₁ e₂) = both_refused n v z e₁ e₂
-of_cases r₁ r₂ out₁ out₂ A (texts_both n e₁ e₂ s) = both_texts n e₁ e₂ s
-
--- The same of two exports.
-pub same_answers : (o₁ o₂ : Outcome) (r₁ r₂ : Result ℕ Refusal) (before₁ after₁ before₂ after₂ : List ℕ) (A : Type 0)
-    → ((t : List ℕ) → o₁ ≡ text t → length t ≤ length before₁) → ((t : List ℕ) → o₂ ≡ text t → length t ≤ length before₂)
-    → Exports o₁ r₁ before₁ after₁ → Exports o₂ r₂ before₂ after₂ → Same o₁ o₂ A → SameAnswers r₁ r₂ after₁ after₂ A
-same_answers o₁ o₂ r₁ r₂ before₁ after₁ before₂ after₂ A f₁ f₂ x₁ x₂ s =
-    of_cases r₁ r₂ after₁ after₂ A
-    (same_answered o₁ o₂ (answer_of r₁) (answer_of r₂) before₁ after₁ before₂ after₂ A f₁ f₂ x₁.answered x₁.buffer x₂.answered x₂.buffer s)

@@ -28,15 +28,12 @@ pub data Same (o₁ o₂ : Outcome) (A : Type 0) : Type 0 where
 
 -- Two answers with the buffers behind the calls: both the same refusal, its number and value, or two texts of one length n, the fronts of
 -- the buffers, that are equal exactly when A holds.
-pub data SameAnswers (r₁ r₂ : Result ℕ Refusal) (out₁ out₂ : List ℕ) (A : Type 0) : Type 0 where
-  both_refused : (n v : ℕ) → n ≢ 0 → answer_of r₁ ≡ record { number = n; value = v } → answer_of r₂ ≡ record { number = n; value = v }
-      → SameAnswers r₁ r₂ out₁ out₂ A
-  both_texts : (n : ℕ) → answer_of r₁ ≡ record { number = 0; value = n } → answer_of r₂ ≡ record { number = 0; value = n }
-      → (take n out₁ ≡ take n out₂) ↔ A → SameAnswers r₁ r₂ out₁ out₂ A
-
--- The same of the answers' numbers and values, whatever form they have.
 pub data SameAnswered (a₁ a₂ : Answer) (out₁ out₂ : List ℕ) (A : Type 0) : Type 0 where
   refused_both : (n v : ℕ) → n ≢ 0 → a₁ ≡ record { number = n; value = v } → a₂ ≡ record { number = n; value = v }
       → SameAnswered a₁ a₂ out₁ out₂ A
   texts_both : (n : ℕ) → a₁ ≡ record { number = 0; value = n } → a₂ ≡ record { number = 0; value = n }
       → (take n out₁ ≡ take n out₂) ↔ A → SameAnswered a₁ a₂ out₁ out₂ A
+
+-- The same of what two exports return.
+abbrev pub SameAnswers : Result ℕ Refusal → Result ℕ Refusal → List ℕ → List ℕ → Type 0 → Type 0
+SameAnswers r₁ r₂ = SameAnswered (answer_of r₁) (answer_of r₂)

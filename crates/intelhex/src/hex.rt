@@ -12,8 +12,8 @@ use crate::plan::{AddressUnit, HexPlan, hex_length};
 use crate::text::write_hex;
 use bitvec::Image;
 use blocks::get_blocks;
-use span_list::SpanList;
 use outcome::{Export, Refusal};
+use span_list::SpanList;
 
 // The text of a plan, or refusal 5 or 8.
 #[tactic(auto, unfolding(crate::specs::Hex::plan_outcome))]

@@ -8,8 +8,8 @@ ghost use Rattle.hex_records.specs.Text.{hex_text};
 
 use bitvec::parts;
 use blocks::Block;
-use span_list::SpanList;
 use outcome::outside;
+use span_list::SpanList;
 
 // How many bits one address stands for.
 #[derive(Clone, Copy)]

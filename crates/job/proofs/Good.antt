@@ -12,7 +12,7 @@ use Rattle.outcome.specs.Outcome.{Exports}
 use Rattle.bitvec.specs.Size.{ceil_div}
 use Rattle.output.proofs.Lists.{table_equal}
 use Rattle.intelhex.specs.Hex.{hex_outcome}
-use Rattle.job.specs.Job.{word, bit_length, image_at, span_count, table_at, address_unit, image_of, rows_of, column, bad_job, job_outcome}
+use Rattle.job.specs.Job.{word, bit_length, image_at, span_count, table_at, address_unit, image_of, column, bad_job, job_outcome}
 
 -- It has 20 to 65,536 bytes, and its parts end within it.
 pub good_job : (job : List ℕ) → bad_job job ≡ false
@@ -45,6 +45,9 @@ word_in job t m a b h e =
     omega (arith, byte_in job t m a b (omega arith) e, byte_in job t m (a + 1) (b + 1) (omega arith) (omega arith), byte_in job t m (a + 2) (b + 2) (omega arith) (omega arith), byte_in job t m (a + 3) (b + 3) (omega arith) (omega arith))
 
 -- Its rows, of which it has no more than 8,192.
+abbrev pub rows_of : List ℕ → List ℕ
+rows_of job = take (8 * span_count job) (drop (table_at job) job)
+
 pub rows_length : (job : List ℕ) → bad_job job ≡ false → length (rows_of job) ≡ 8 * span_count job
 rows_length job e = length-take-le (8 * span_count job) (drop (table_at job) job) (omega (arith, good_job job e, length-drop (table_at job) job))
 

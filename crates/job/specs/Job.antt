@@ -32,9 +32,6 @@ address_unit job = word job 16
 unfoldable pub image_of : List ℕ → List ℕ
 image_of job = take (ceil_div (bit_length job) 8) (drop (image_at job) job)
 
-abbrev pub rows_of : List ℕ → List ℕ
-rows_of job = take (8 * span_count job) (drop (table_at job) job)
-
 unfoldable pub column : List ℕ → ℕ → ℕ → List ℕ
 column job at count = table (λ k. word job (at + 8 * k)) count
 

@@ -6,7 +6,7 @@ ghost use Rattle.std.specs.Prelude.{◌≡◌, true, false, ◌+◌, ◌*◌, �
 ghost use Rattle.output.specs.Writes.{Writes};
 ghost use Rattle.outcome.specs.Outcome.{refused, Exports};
 ghost use Rattle.intelhex.specs.Hex.{hex_outcome};
-ghost use Rattle.job.specs.Job.{word, column, bad_job, job_outcome, printed, bit_length, image_of, rows_of, address_unit};
+ghost use Rattle.job.specs.Job.{word, column, bad_job, job_outcome, printed, bit_length, image_of, span_count, table_at, address_unit};
 
 use bitvec::{Image, parts};
 use intelhex::format_intelhex;
@@ -53,7 +53,7 @@ impl<'a> Job<'a> {
     // The job that bytes hold, unless they are refused with 9.
     #[tactic(auto, using(bitvec::proofs::Size::ceil_most), unfolding(crate::specs::Job::bad_job))]
     fn read(job: &'a [u8]) -> Option<Job<'a>>
-        ensures { MatchOption result (bad_job job.now ≡ true) (λ j. (bad_job job.now ≡ false) × (j.image.bytes.now ≡ image_of job.now) × (j.image.len ≡ bit_length job.now) × (j.rows.now ≡ rows_of job.now) × (j.unit ≡ address_unit job.now)) }
+        ensures { MatchOption result (bad_job job.now ≡ true) (λ j. (bad_job job.now ≡ false) × (j.image.bytes.now ≡ image_of job.now) × (j.image.len ≡ bit_length job.now) × (j.rows.now ≡ take (8 * span_count job.now) (drop (table_at job.now) job.now)) × (j.unit ≡ address_unit job.now)) }
     {
         let n = job.len();
         if MAX_BYTES < n || n < 20 {

@@ -19,7 +19,7 @@ use Rattle.outcome.proofs.Outcome.{inside}
 use Rattle.numbers.specs.declared.Letters.TheVariants.{Lower}
 use Rattle.numbers.specs.Digits.{digit_count, number_text}
 use Rattle.numbers.proofs.Digits.{count_last, count_more, number_length, padded_length}
-use Rattle.digits.specs.Base.{base_bits}
+use Rattle.digits.specs.Bytes.{base_bits}
 use Rattle.ordering.specs.Order.{absent, offset_from}
 use Rattle.ordering.proofs.Numbered.{offset_some, offset_none}
 use Rattle.listing.specs.declared.FormatAnnotatedOptions.{FormatAnnotatedOptions}

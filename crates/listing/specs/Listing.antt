@@ -13,7 +13,7 @@ use Rattle.output.specs.Pieces.{joined, every}
 use Rattle.outcome.specs.Outcome.{outside}
 use Rattle.numbers.specs.declared.Letters.TheVariants.{Lower}
 use Rattle.numbers.specs.Digits.{digit_count, number_text, padded}
-use Rattle.digits.specs.Base.{base_bits}
+use Rattle.digits.specs.Bytes.{base_bits}
 use Rattle.digits.specs.Run.{digit_at}
 use Rattle.ordering.specs.Order.{absent, in_order}
 use Rattle.sources.specs.Sources.{no_location, excerpt_of}

@@ -6,7 +6,7 @@
 ghost use Rattle.std.specs.Prelude.{◌≡◌, ◌≢◌, true, false, not, ◌||◌, eqb, ◌+◌, ◌≤◌, ◌<◌, max, length, get_or, MatchOption};
 ghost use Rattle.std.specs.Option.{ForSome};
 ghost use Rattle.output.specs.Writes.{Writes};
-ghost use Rattle.digits.specs.Base.{base_bits};
+ghost use Rattle.digits.specs.Bytes.{base_bits};
 ghost use Rattle.numbers.specs.Digits.{digit_count, padded};
 ghost use Rattle.ordering.specs.Order.{absent, offset_from};
 ghost use Rattle.listing.specs.Listing.{lent, location_from, unequal, out_of_range, bad_annotated, content_need, addr_title, wider, widths_of, heading};

@@ -10,7 +10,7 @@ use Rattle.std.specs.Str.{IsAscii, IsNotAscii}
 use Rattle.std.proofs.lemmas.List.{get_or_past}
 use Rattle.output.specs.Lists.{first}
 use Rattle.output.proofs.Lists.{first_all, first_most, first_none}
-use Rattle.sources.specs.Sources.{not_ascii, bad_text}
+use Rattle.sources.specs.Sources.{bad_text}
 
 -- A text that is not bad has at most 1,048,576 bytes.
 pub short_text : (t : List ℕ) → bad_text t ≡ false → length t ≤ 1048576
@@ -18,8 +18,8 @@ unfolding bad_text
 short_text t e = ltb-false _ _ ((or-eq-false-eq-eq-false-and-eq-false (ltb 1048576 (length t)) _).0 e).0
 
 -- What the library's test of a text says of the first byte of 128 or more.
-pub ascii_tested : (t : List ℕ) (b : Bool) → MatchBool b (IsAscii t) (IsNotAscii t) → ltb (not_ascii t) (length t) ≡ not b
-unfolding not_ascii
+pub ascii_tested : (t : List ℕ) (b : Bool) → MatchBool b (IsAscii t) (IsNotAscii t)
+    → ltb (first (λ k. ltb 127 (get_or t k 0)) (length t)) (length t) ≡ not b
 ascii_tested t true h = let none = first_all (λ k. ltb 127 (get_or t k 0)) (length t) (λ k l. le-ltb 127 (get_or t k 0) (omega (arith, h k))) in le-ltb _ _ (omega (arith, none))
 ascii_tested t false h = go (ltb (first fault (length t)) (length t)) (ltb h.0 (length t)) refl refl
   where

@@ -14,10 +14,6 @@ source firmware protocol file = cond (eqb file 0) firmware protocol
 unfoldable pub excerpt_of : List ℕ → List ℕ → ℕ → ℕ → ℕ → List ℕ
 excerpt_of firmware protocol file start end = take (end - start) (drop start (source firmware protocol file))
 
--- The place of the first byte of 128 or more, or the text's length where there is none.
-unfoldable pub not_ascii : List ℕ → ℕ
-not_ascii t = first (λ k. ltb 127 (get_or t k 0)) (length t)
-
--- The cause of refusal 6: a text of more than 1,048,576 bytes, or one that is not ASCII.
+-- The cause of refusal 6: a text of more than 1,048,576 bytes, or one that is not ASCII: it has a first byte of 128 or more.
 unfoldable pub bad_text : List ℕ → Bool
-bad_text t = ltb 1048576 (length t) || ltb (not_ascii t) (length t)
+bad_text t = ltb 1048576 (length t) || ltb (first (λ k. ltb 127 (get_or t k 0)) (length t)) (length t)

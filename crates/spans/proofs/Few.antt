@@ -14,7 +14,7 @@ use Rattle.std.proofs.lemmas.List.Edits.{take-paste}
 use Rattle.output.proofs.Order.{by_order}
 use Rattle.span_list.specs.Range.{long_list, spans_checked}
 use Rattle.spans.specs.declared.Span.{Span}
-use Rattle.spans.specs.InnerCopies.{copied_count, column}
+use Rattle.spans.specs.InnerCopies.{copied_column}
 use Rattle.spans.specs.Spans.{offset_number, offsets_of, sizes_of}
 
 -- As many of a list as it has are all of it.
@@ -22,10 +22,10 @@ take_most : {A : Type 0} (l : List A) (k : ℕ) → take (min (length l) k) l �
 take_most l k = sym (take-take (min (length l) k) k l (omega arith)) ∙ take_all (min (length l) k) (take k l) (omega (arith, length-take k l))
 
 -- The front of a column is the numbers of the first 4,097 records.
-pub front : (w : Span → ℕ) (xs : List Span) {n : ℕ} {numbers : List ℕ} → n ≡ copied_count xs → numbers ≡ column xs (map w xs) → take n numbers ≡ map w (take 4097 xs)
-unfolding column
+pub front : (w : Span → ℕ) (xs : List Span) {n : ℕ} {numbers : List ℕ} → n ≡ min (length xs) 4097 → numbers ≡ copied_column xs (map w xs) → take n numbers ≡ map w (take 4097 xs)
+unfolding copied_column
 front w xs e f =
-    let n = copied_count xs in
+    let n = min (length xs) 4097 in
     rw (e, f)
     (ap (λ (k : ℕ). take k (paste (replicate 4097 0) 0 (map w xs) n)) (sym (zero-add n))
     ∙ take-paste (replicate 4097 0) 0 (map w xs) n (omega arith) (omega (arith, length-map xs w))

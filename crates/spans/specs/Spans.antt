@@ -2,7 +2,6 @@
 use Rattle.std.specs.Prelude.{Bool, false, cond, Option, None, Some, List, map, ℕ, ◌+◌, min, eqb, ltb}
 use Rattle.bitvec.specs.Size.{max_bits}
 use Rattle.ordering.specs.Order.{absent}
-unfoldable pub use Rattle.ordering.specs.Order.{offset_from}
 use Rattle.sources.specs.Sources.{no_location}
 use Rattle.spans.specs.declared.Location.{Location}
 use Rattle.spans.specs.declared.Span.{Span}

@@ -3,6 +3,8 @@
 // their numbers at the fronts of arrays: a generic struct may hold no array of its type parameter.
 ghost use Rattle.std.specs.Prelude.{◌≡◌, ◌≤◌, min, length, map};
 ghost use lib.Seq.{paste};
+ghost use Rattle.spans.specs.InnerCopies.{copied_column};
+ghost use Rattle.spans.specs.Spans.{offsets_of, sizes_of, addrs_of, files_of, starts_of, ends_of};
 
 use crate::Span;
 
@@ -31,11 +33,11 @@ pub struct Columns {
 }
 
 impl Columns {
-    ghost use Rattle.spans.specs.InnerCopies.{ColumnsOf};
-
     // Copies those of records.
     pub fn copy(spans: &[Span]) -> Columns
-        ensures { ColumnsOf spans.now result }
+        ensures offsets { result.offsets ≡ copied_column spans.now (offsets_of spans.now) }
+        ensures sizes { result.sizes ≡ copied_column spans.now (sizes_of spans.now) }
+        ensures count { result.count ≡ min (length spans.now) 4097 }
     {
         let mut offsets: [u32; 4097] = [0; 4097];
         let mut sizes: [u32; 4097] = [0; 4097];
@@ -61,11 +63,13 @@ pub struct ListingColumns {
 }
 
 impl ListingColumns {
-    ghost use Rattle.spans.specs.InnerCopies.{ListingColumnsOf};
-
     // Copies the logical addresses, files, starts and ends of records.
     pub fn copy(spans: &[Span]) -> ListingColumns
-        ensures { ListingColumnsOf spans.now result }
+        ensures addrs { result.addrs ≡ copied_column spans.now (addrs_of spans.now) }
+        ensures files { result.files ≡ copied_column spans.now (files_of spans.now) }
+        ensures starts { result.starts ≡ copied_column spans.now (starts_of spans.now) }
+        ensures ends { result.ends ≡ copied_column spans.now (ends_of spans.now) }
+        ensures count { result.count ≡ min (length spans.now) 4097 }
     {
         let mut addrs: [u64; 4097] = [0; 4097];
         let mut files: [u8; 4097] = [0; 4097];

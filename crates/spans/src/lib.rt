@@ -3,7 +3,8 @@
 #![tactic(auto)]
 
 ghost use Rattle.std.specs.Prelude.{◌≡◌};
-ghost use Rattle.spans.specs.Spans.{offset_number, start_number, end_number, offset_from, location_from};
+ghost use Rattle.ordering.specs.Order.{offset_from};
+ghost use Rattle.spans.specs.Spans.{offset_number, start_number, end_number, location_from};
 
 pub mod columns;
 

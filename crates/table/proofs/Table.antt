@@ -10,7 +10,7 @@ use Rattle.outcome.specs.Outcome.{text, outside, too_long}
 use Rattle.numbers.specs.Digits.{digit_char, byte_text}
 use Rattle.digits.specs.Run.{digit_at, run, short_digit, hex_line, line_text}
 use Rattle.image_parts.specs.Parts.{part_bits}
-use Rattle.digits.specs.Base.{base_bits}
+use Rattle.digits.specs.Bytes.{base_bits}
 use Rattle.output.specs.Lists.{table as numbered, first}
 use Rattle.ordering.specs.Order.{put_in, ordered, rank, in_order}
 use Rattle.span_list.specs.Range.{long_list, bad_span, fault_at}

@@ -6,8 +6,8 @@ use native.Mathlib.Omega.{arith}
 use lib.ListN.{length}
 use borrow.Author.Rules.{rules}
 use Rattle.output.proofs.Joined.{between_length, between_small}
-use Rattle.format_list.specs.InnerGroups.{every_of, second_of, between_of}
-use Rattle.format_list.proofs.Strings.{either_long, every_some, second_short}
+use Rattle.format_list.specs.InnerGroups.{every_of, between_of}
+use Rattle.format_list.proofs.Strings.{second_of, either_long, every_some, second_short}
 use Rattle.format_list.proofs.shape.ListOptions.gaps_length.Goals as goal
 
 pub returns : goal.returns
