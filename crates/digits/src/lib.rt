@@ -113,7 +113,7 @@ fn put_each(out: &mut [u8], at: usize, digits: DigitRun) -> usize
 }
 
 // Stores whole bytes of an image in digits, of which none is tested.
-fn put_whole(out: &mut [u8], at: usize, kind: ByteDigits, bytes: WholeBytes) -> usize
+fn put_whole_bytes(out: &mut [u8], at: usize, kind: ByteDigits, bytes: WholeBytes) -> usize
     requires { at + bytes.count * digits_per_byte kind ≤ length out.old }
     ensures { Writes (run bytes.entry.image.bytes.now bytes.entry.image.len (digit_bits kind) (bytes.entry.first * 8) (bytes.entry.count * digits_per_byte kind)) out.old at out.new result }
 {
@@ -149,7 +149,7 @@ fn put_bytes(out: &mut [u8], at: usize, kind: ByteDigits, digits: DigitRun, coun
     ensures { Writes (run digits.entry.image.bytes.now digits.entry.image.len digits.entry.width.bits digits.entry.from.0 (count * digits_per_byte kind)) out.old at out.new result }
 {
     let (first, mut next) = match leading_bytes(digits, count) {
-        Some(bytes) => (bytes.count, put_whole(out, at, kind, bytes)),
+        Some(bytes) => (bytes.count, put_whole_bytes(out, at, kind, bytes)),
         None => (0, at),
     };
     for k in first..count {

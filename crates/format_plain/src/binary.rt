@@ -20,7 +20,7 @@ pub struct Binary {
 }
 
 // Stores bytes as they stand. A function for its promise, in which the proofs of its caller speak.
-fn put_whole(bytes: &[u8], out: &mut [u8]) -> usize
+fn put_lent(bytes: &[u8], out: &mut [u8]) -> usize
     requires { length bytes.now ≤ length out.old }
     ensures { Writes (pieces (λ k. byte_at bytes.now (8 * length bytes.now) k ∷ []) (length bytes.now)) out.old 0 out.new result }
 {
@@ -34,7 +34,7 @@ fn write_binary(image: GoodImage, out: &mut [u8]) -> usize
 {
     let image = image.image;
     let whole = image.len / 8;
-    let next = put_whole(&image.bytes[..whole], out);
+    let next = put_lent(&image.bytes[..whole], out);
     if image.len % 8 == 0 {
         return next;
     }

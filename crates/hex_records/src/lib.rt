@@ -33,7 +33,7 @@ fn put_head(out: &mut [u8], at: usize, data_record: DataRecord) -> usize
 
 // Writes what `byte_at` reads, the data of a record from byte 0 on, and adds them to `sum`, modulo 256. The loop
 // counts, since `byte_at` is asked by number.
-fn put_bytes<F: Fn(usize) -> u8>(
+fn put_data_bytes<F: Fn(usize) -> u8>(
     out: &mut [u8],
     at: usize,
     image: Image,
@@ -68,10 +68,10 @@ fn put_data(out: &mut [u8], at: usize, image: Image, data_record: DataRecord, su
     let first = from.byte();
     if from.0 + 8 * count <= image.len && first + count < image.bytes.len() {
         let across = |k: usize| image.read_across(first + k, from.shift(), 8);
-        return put_bytes(out, at, image, data_record, across, sum);
+        return put_data_bytes(out, at, image, data_record, across, sum);
     }
     let any = |k: usize| image.read_byte(from.plus(8 * k));
-    put_bytes(out, at, image, data_record, any, sum)
+    put_data_bytes(out, at, image, data_record, any, sum)
 }
 
 // Writes one record.

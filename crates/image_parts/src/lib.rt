@@ -86,7 +86,7 @@ fn part_digits(kind: ByteDigits, width: usize) -> Option<DigitWidth>
 
 // Stores the text of the parts that the image fills, whose digits have one width: those of many parts
 // are made at once.
-fn put_whole<T: PartTail>(
+fn put_whole_parts<T: PartTail>(
     out: &mut [u8],
     at: usize,
     kind: ByteDigits,
@@ -131,7 +131,7 @@ pub fn put_parts<T: PartTail>(
     let (first, mut next) = match part_digits(kind, parts.width) {
         Some(digit) => (
             image.len / parts.width,
-            put_whole(out, at, kind, parts, digit, tail),
+            put_whole_parts(out, at, kind, parts, digit, tail),
         ),
         None => (0, at),
     };

@@ -122,11 +122,6 @@ pub widths_absent : (o : FormatAnnotatedOptions) (offsets sizes addrs : List ℕ
 unfolding widths_of
 widths_absent o offsets sizes addrs n e = rw add-one (simp (eq-eqb _ _ (offset_none _ e)))
 
-pub widths_present : (o : FormatAnnotatedOptions) (offsets sizes addrs : List ℕ) (n : ℕ) → get_or offsets n 0 ≢ absent
-    → widths_of o offsets sizes addrs (n + 1) ≡ wider o (widths_of o offsets sizes addrs n) (get_or offsets n 0) (get_or sizes n 0) (get_or addrs n 0)
-unfolding widths_of
-widths_present o offsets sizes addrs n e = rw add-one (simp (ne_eqb _ _ e))
-
 -- The same of an offset that is there.
 pub widths_there : (o : FormatAnnotatedOptions) (offsets sizes addrs : List ℕ) (n m : ℕ) → offset_from (get_or offsets n 0) ≡ Some m
     → widths_of o offsets sizes addrs (n + 1) ≡ wider o (widths_of o offsets sizes addrs n) m (get_or sizes n 0) (get_or addrs n 0)

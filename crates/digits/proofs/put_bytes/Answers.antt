@@ -18,7 +18,7 @@ loop-k-init c =
       | in-Some w ↦
           let b = w.in-Some.bytes in
           let e = rw w.in-Some.is at c.leading_bytes.ensures in
-          let written = w.put_whole.ensures in
+          let written = w.put_whole_bytes.ensures in
           rw (w.first-is, w.out-is)
           (e.2, omega (arith, written.next, run_length b.image.bytes.now b.image.len (digit_bits c.args.kind) (b.first * 8) (b.count * digits_per_byte c.args.kind)), rw (c.requires.0, ← e.0, ← e.1) written, writes_length written)
       | in-None w ↦ rw (w.first-is, w.out-is) (search rules, search rules, rw (zero-mul, run_none _ _ _ _) (writes_nothing _ _), refl)

@@ -15,8 +15,8 @@ use Rattle.image_parts.proofs.Parts.{parts_most}
 use Rattle.image_parts.proofs.put_parts.Goals as goal
 use Rattle.image_parts.proofs.put_parts.Goals.{in-Some, in-None}
 
-pub put_whole-requires-clause-room : goal.put_whole-requires-clause-room
-put_whole-requires-clause-room g c =
+pub put_whole_parts-requires-clause-room : goal.put_whole_parts-requires-clause-room
+put_whole_parts-requires-clause-room g c =
     let p = c.args.parts in
     let i = p.good.image in
     omega (arith, pieces_most (part_text c.args.kind i.bytes.now i.len p.width (g.T.PartTail.tail c.args.tail.now)) (i.len / p.width) (ceil_div i.len p.width) (parts_most i.len p.width p.in_range.0), c.requires)
@@ -25,7 +25,7 @@ pub loop-i-init : goal.loop-i-init
 loop-i-init g c =
     let p = c.args.parts in
     elim c.match-part_digits.branch [
-      | in-Some w ↦ rw (w.first-is, w.out-is) (parts_most p.good.image.len p.width p.in_range.0, w.put_whole.ensures, writes_length w.put_whole.ensures)
+      | in-Some w ↦ rw (w.first-is, w.out-is) (parts_most p.good.image.len p.width p.in_range.0, w.put_whole_parts.ensures, writes_length w.put_whole_parts.ensures)
       | in-None w ↦ rw (w.first-is, w.out-is) (omega arith, rw pieces_none (writes_nothing _ _), refl)
     ]
 

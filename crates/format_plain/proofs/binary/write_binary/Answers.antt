@@ -14,9 +14,9 @@ use Rattle.format_plain.specs.Binary.{binary_text}
 use Rattle.format_plain.proofs.Whole.{first_bytes}
 use Rattle.format_plain.proofs.binary.write_binary.Goals as goal
 
-pub put_whole-next-requires : goal.put_whole-next-requires
+pub put_lent-next-requires : goal.put_lent-next-requires
 unfolding ceil_div
-put_whole-next-requires c =
+put_lent-next-requires c =
     let i = c.args.image.image in
     omega (arith, c.requires, length-take-le (i.len / 8) i.bytes.now (omega (arith, c.args.image.inside)))
 
@@ -24,13 +24,13 @@ pub returns-then-image-eq0 : goal.returns-then-image-eq0
 unfolding binary_text
 returns-then-image-eq0 c =
     let i = c.args.image.image in
-    let wrote = rw (first_bytes i.bytes.now i.len (i.len / 8) (omega arith) (omega (arith, c.args.image.inside))) at c.put_whole-next.ensures in
+    let wrote = rw (first_bytes i.bytes.now i.len (i.len / 8) (omega arith) (omega (arith, c.args.image.inside))) at c.put_lent-next.ensures in
     rw (ceil_whole i.len 8 (omega arith) c.if-image-eq0.true) wrote
 
 pub put-requires : goal.put-requires
 put-requires c =
     let i = c.args.image.image in
-    let wrote = rw (first_bytes i.bytes.now i.len (i.len / 8) (omega arith) (omega (arith, c.args.image.inside))) at c.put_whole-next.ensures in
+    let wrote = rw (first_bytes i.bytes.now i.len (i.len / 8) (omega arith) (omega (arith, c.args.image.inside))) at c.put_lent-next.ensures in
     let long = pieces_length (λ k. byte_at i.bytes.now i.len k ∷ []) 1 (i.len / 8) (λ k h. refl) in
     omega (arith, ceil_short i.len 8 (omega arith) (omega (arith, c.if-image-eq0.false)), c.requires, long, wrote.next, writes_length wrote)
 
@@ -38,6 +38,6 @@ pub returns : goal.returns
 unfolding binary_text
 returns c =
     let i = c.args.image.image in
-    let wrote = rw (first_bytes i.bytes.now i.len (i.len / 8) (omega arith) (omega (arith, c.args.image.inside))) at c.put_whole-next.ensures in
+    let wrote = rw (first_bytes i.bytes.now i.len (i.len / 8) (omega arith) (omega (arith, c.args.image.inside))) at c.put_lent-next.ensures in
     rw (ceil_short i.len 8 (omega arith) (omega (arith, c.if-image-eq0.false)), pieces_next, ← c.read_byte-last.ensures)
     (writes_then wrote c.put.ensures)

@@ -1,7 +1,7 @@
 use Rattle.std.proofs.Common.{◌≡◌, ◌+◌, ◌*◌, ◌%◌}
 use Rattle.output.specs.Writes.{Writes}
 use Rattle.hex_records.specs.Text.{bytes_from, total, hex_bytes}
-use Rattle.hex_records.proofs.put_bytes.Given as goal
+use Rattle.hex_records.proofs.put_data_bytes.Given as goal
 
 abbrev pub invariant-loop-k : goal.invariant-loop-k
 invariant-loop-k g l = (l.next ≡ l.at + 2 * l.k)

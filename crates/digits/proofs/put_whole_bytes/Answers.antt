@@ -1,4 +1,4 @@
--- `digits::put_whole` meets its contract: after each turn the bytes so far are written.
+-- `digits::put_whole_bytes` meets its contract: after each turn the bytes so far are written.
 -- Assumes nothing.
 use mathlib.Core.Path.{refl, ap}
 use Prim.Native.Nat.{◌*◌, ◌<◌}
@@ -12,7 +12,7 @@ use Rattle.output.proofs.Writes.{writes_nothing, writes_then, writes_length}
 use Rattle.digits.specs.Bytes.{digits_per_byte, digit_bits}
 use Rattle.digits.proofs.Run.{run_none, run_length}
 use Rattle.digits.proofs.Bytes.{part_next}
-use Rattle.digits.proofs.put_whole.Goals as goal
+use Rattle.digits.proofs.put_whole_bytes.Goals as goal
 
 pub loop-byte-init : goal.loop-byte-init
 loop-byte-init c = (rw (zero-mul, run_none _ _ _ _) (writes_nothing _ _), refl)

@@ -1,4 +1,4 @@
--- `hex_records::put_bytes` meets its contract: after k turns k bytes are written and added.
+-- `hex_records::put_data_bytes` meets its contract: after k turns k bytes are written and added.
 -- Assumes nothing.
 use Rattle.std.proofs.Common.{[], ◌∷◌, arith}
 use Rattle.numbers.specs.Digits.{byte_text}
@@ -6,7 +6,7 @@ use Rattle.output.proofs.Writes.{writes_nothing, writes_then}
 use Rattle.hex_records.specs.Text.{bytes_from, total}
 use Rattle.hex_records.proofs.Sums.{total_append}
 use Rattle.hex_records.proofs.Text.{bytes_none, bytes_next, hex_none, hex_append, hex_one}
-use Rattle.hex_records.proofs.put_bytes.Goals as goal
+use Rattle.hex_records.proofs.put_data_bytes.Goals as goal
 
 pub loop-k-init : goal.loop-k-init
 unfolding total

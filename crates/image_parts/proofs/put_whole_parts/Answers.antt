@@ -1,9 +1,9 @@
--- `image_parts::put_whole` meets its contract: whole parts whose digits have one width are groups of digits.
+-- `image_parts::put_whole_parts` meets its contract: whole parts whose digits have one width are groups of digits.
 -- Assumes nothing.
 use Prim.Native.Nat.{◌/◌}
 use native.Mathlib.Nat.{div-mul-le_self}
 use Rattle.image_parts.proofs.Runs.{whole_parts}
-use Rattle.image_parts.proofs.put_whole.Goals as goal
+use Rattle.image_parts.proofs.put_whole_parts.Goals as goal
 
 pub put_groups-requires-clause-room : goal.put_groups-requires-clause-room
 put_groups-requires-clause-room g c =
