@@ -41,8 +41,8 @@ returns g c =
     let enough = finds_blocks l.offsets.now l.sizes.now a.block_offsets.now c.close_all.new.block_offsets a.block_sizes.now c.close_all.new.block_sizes a.spans.short a.spans.good in
     elim c.if-block_offsets-n.branch [
       | then-block_offsets-n+else-block_offsets-count+else-block_sizes-count w ↦
-        let counted = w.close_all-count.ensures.counted in
-        enough (omega (arith, counted, w.if-block_offsets-count.false)) (omega (arith, counted, w.if-block_sizes-count.false)) c.close_all.result c.close_all.ensures
+          let counted = w.close_all-count.ensures.counted in
+          enough (omega (arith, counted, w.if-block_offsets-count.false)) (omega (arith, counted, w.if-block_sizes-count.false)) c.close_all.result c.close_all.ensures
       | else-block_offsets-n+else-block_sizes-n w ↦
-        enough (omega (arith, few, w.if-block_offsets-n.false)) (omega (arith, few, w.if-block_sizes-n.false)) c.close_all.result c.close_all.ensures
+          enough (omega (arith, few, w.if-block_offsets-n.false)) (omega (arith, few, w.if-block_sizes-n.false)) c.close_all.result c.close_all.ensures
     ]
