@@ -17,15 +17,17 @@ pub fn put(out: &mut [u8], at: usize, byte: u8) -> usize
     at + 1
 }
 
-// Stores all of `s`.
-#[tactic(auto, using(crate::proofs::Writes::part_filled))]
+// Stores all of `s`. The compiler makes a `memcpy` of the loop: `copy_from_slice` is a `memmove`, a name more
+// that the archive for C would need from outside.
 pub fn put_all(out: &mut [u8], at: usize, s: &[u8]) -> usize
     requires { at + length s.now ≤ length out.old }
     ensures { Writes s.now out.old at out.new result }
 {
-    let end = at + s.len();
-    out[at..end].copy_from_slice(s);
-    end
+    let mut next = at;
+    for &byte in s {
+        next = put(out, next, byte);
+    }
+    next
 }
 
 // Stores all of `s` too: a text of one or two bytes by single stores, so that no copy is called. It
