@@ -115,13 +115,25 @@ impl<'a> Listed<'a> {
         Ok(self.put_shown_lines(out, next, places))
     }
 
-    // The listing, or refusal 8.
-    pub fn list(self, out: &mut [u8]) -> Export
+    // The listing of at most N spans, or refusal 8. N is bounded as in `ordering::order_within`.
+    fn list_within<const N: usize>(self, out: &mut [u8]) -> Export
+        requires { (length self.spans.columns.offsets.now ≤ N) × (N ≤ 4096) }
         ensures { Exports (in_room (length out.old) (shown_text self.entry)) result out.old out.new }
     {
         let offsets = self.spans.columns.offsets;
-        let mut places = [0u32; 4096];
-        ordering::order_within::<4096>(offsets, &mut places);
+        let mut places = [0u32; N];
+        ordering::order_within::<N>(offsets, &mut places);
         self.list_in_order(&places[..offsets.len()], out)
+    }
+
+    // The listing, or refusal 8. For few spans less memory is set to zero, and the stack is a third, as in
+    // `blocks::get_blocks`.
+    pub fn list(self, out: &mut [u8]) -> Export
+        ensures { Exports (in_room (length out.old) (shown_text self.entry)) result out.old out.new }
+    {
+        if self.spans.columns.offsets.len() <= 64 {
+            return self.list_within::<64>(out);
+        }
+        self.list_within::<4096>(out)
     }
 }
