@@ -19,6 +19,8 @@ use sources::Sources;
 use spans::Span;
 use spans::columns::{Columns, ListingColumns};
 
+pub mod arrays;
+
 // The blocks of the lent records, their offsets and sizes at the fronts of two slices.
 pub fn get_blocks(
     spans: &[Span],

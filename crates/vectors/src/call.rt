@@ -6,6 +6,7 @@ use bitvec::Image;
 use format_dump::DumpOptions;
 use format_list::{FormatListOptions, ListStrings};
 use listing::{FormatAnnotatedOptions, SpanColumns};
+use of_spans::arrays;
 use outcome::Export;
 use sources::Sources;
 
@@ -51,8 +52,7 @@ fn intelhex(row: &[u8], over_records: bool, image: Image, out: &mut [u8]) -> Exp
     let unit = number(row, b"address_unit=");
     let offsets = span_column(row, 0);
     if over_records {
-        let records = records(row);
-        return of_spans::format_intelhex(image, &records[..offsets.count], unit, out);
+        return arrays::format_intelhex(image, records(row), offsets.count, unit, out);
     }
     let sizes = span_column(row, 1);
     let offset_words = words(&offsets);
@@ -110,8 +110,7 @@ fn annotated(row: &[u8], over_records: bool, image: Image, out: &mut [u8]) -> Ex
         return annotated_of_numbers(row, image, sources, options, out);
     }
     let count = span_column(row, 0).count;
-    let records = records(row);
-    of_spans::format_annotated(image, &records[..count], sources, options, out)
+    arrays::format_annotated(image, records(row), count, sources, options, out)
 }
 
 // The export that a row names, its spans lent as numbers or as records.

@@ -5,6 +5,7 @@ use crate::exporter::Exporter;
 use crate::row::{LONGEST, begins, bytes, has, number, number_or, value};
 use crate::span_row::{column, records, span_column};
 use bitvec::Image;
+use of_spans::arrays;
 use outcome::{Answer, Export};
 
 // What stands in a buffer before a call, of bytes and of numbers.
@@ -106,11 +107,11 @@ fn holds_blocks(found: &[u32; BLOCKS], row: &[u8], k: usize) -> bool {
 // Whether the blocks of the row's spans, which are lent as records, are the row's.
 fn blocks_agree(row: &[u8]) -> bool {
     let room = number(row, b"room=").min(BLOCKS);
-    let records = records(row);
     let mut offsets = [OLD_NUMBER; BLOCKS];
     let mut sizes = [OLD_NUMBER; BLOCKS];
-    let answer = of_spans::get_blocks(
-        &records[..span_column(row, 0).count],
+    let answer = arrays::get_blocks(
+        records(row),
+        span_column(row, 0).count,
         &mut offsets[..room],
         &mut sizes[..room],
     );
