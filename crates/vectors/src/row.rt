@@ -91,8 +91,10 @@ pub(crate) fn number_or(row: &[u8], key: &[u8], other: usize) -> usize {
     }
 }
 
-// The value of a hexadecimal digit in lower case, 16 or more for any other letter.
-fn nibble(digit: u8) -> u8 {
+// The value of a hexadecimal digit in lower case, 16 for any other letter.
+fn nibble(digit: u8) -> u8
+    ensures { result ≤ 16 }
+{
     let letter = digit.wrapping_sub(b'a');
     if letter < 6 {
         return letter + 10;
