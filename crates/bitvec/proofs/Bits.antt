@@ -7,9 +7,9 @@ use mathlib.Core.Logic.{◌↔◌}
 use Prim.Native.Nat.{ℕ, zero, suc, ◌+◌, ◌-◌, ◌*◌, ◌/◌, ◌%◌, ◌^◌, ◌<◌, ◌≤◌}
 use native.Mathlib.Omega.{arith}
 use native.Mathlib.Numerals.{add-one}
-use native.Mathlib.Nat.{pow-suc, lt_of_lt_of_le}
+use native.Mathlib.Nat.{pow-suc, lt_of_lt_of_le, zero-div}
 use lib.Dec.{ltb}
-use lib.ListN.{get_or}
+use lib.ListN.{length, get_or, get_or-eq_default}
 use lib.Pow.{pow_mono}
 use borrow.Author.Count.{below_none, below_more}
 use borrow.Author.Tests.{le-ltb, lt-ltb}
@@ -19,6 +19,15 @@ use Rattle.bitvec.specs.Bits.{bit_at, bits_at}
 pub bit_past : (bytes : List ℕ) (len i : ℕ) → len ≤ i → bit_at bytes len i ≡ 0
 unfolding bit_at
 bit_past bytes len i h = simp (le-ltb i len h)
+
+-- So is one past the bytes.
+pub bit_beyond : (bytes : List ℕ) (len i : ℕ) → length bytes ≤ i / 8 → bit_at bytes len i ≡ 0
+unfolding bit_at
+bit_beyond bytes len i h = rw (get_or-eq_default bytes 0 h, zero-div) (cond_same (ltb i len))
+  where
+    cond_same : (t : Bool) → cond t (0 % 2) 0 ≡ 0
+    cond_same true = refl
+    cond_same false = refl
 
 -- One within the bit length is cut out of its byte.
 pub bit_inside : (bytes : List ℕ) (len i : ℕ) → i < len → bit_at bytes len i ≡ get_or bytes (i / 8) 0 / 2 ^ (7 - i % 8) % 2
@@ -54,6 +63,11 @@ bits_seven bytes len i w h = bits_below bytes len i w 7 (omega arith)
 pub bits_none : (bytes : List ℕ) (len i : ℕ) → bits_at bytes len i 0 ≡ 0
 unfolding bits_at
 bits_none bytes len i = refl
+
+-- A digit of one bit is the bit.
+pub bits_one : (bytes : List ℕ) (len i : ℕ) → bits_at bytes len i 1 ≡ bit_at bytes len (i + 0)
+unfolding bits_at
+bits_one bytes len i = omega arith
 
 -- Two images have the same bits from i on, w of them.
 abbrev pub SameBits : List ℕ → ℕ → List ℕ → ℕ → ℕ → ℕ → Type 0

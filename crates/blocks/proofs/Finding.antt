@@ -67,6 +67,19 @@ module _ (offsets sizes offsets₀ offsets₁ sizes₀ sizes₁ : List ℕ) wher
       go false false true p e f = absurd (false≢true (sym (e p)))
       go false false false p e f = absurd (refusal_some r (ap (λ (a : Answer). a.number) f.answered))
 
+  -- Refusal 3 with this place is what any other check of the spans gives, whatever the slices have places for.
+  pub range_found : {A : Type 0} (refuse : ℕ → ℕ → A) (good : A) (p : ℕ) → Finds given (Err (SpanRange p)) offsets₀ offsets₁ sizes₀ sizes₁
+      → spans_checked refuse offsets sizes good ≡ refuse 3 p
+  unfolding blocks_found
+  range_found {A} refuse good p f = go (long_list offsets sizes) (ltb (fault_at offsets sizes) (length offsets)) short f
+    where
+      go : (a b c : Bool) → Finds (cases a b c) (Err (SpanRange p)) offsets₀ offsets₁ sizes₀ sizes₁
+          → cond a (refuse 3 4096) (cond b (refuse 3 (fault_at offsets sizes)) good) ≡ refuse 3 p
+      go true b c f = ap (refuse 3) (sym (ap (λ (a : Answer). a.value) f.answered))
+      go false true c f = ap (refuse 3) (sym (ap (λ (a : Answer). a.value) f.answered))
+      go false false true f = absurd (omega (arith, ap (λ (a : Answer). a.number) f.answered))
+      go false false false f = absurd (omega (arith, ap (λ (a : Answer). a.number) f.answered))
+
   -- Where blocks are found, the spans are good,
   pub good_found : {A : Type 0} (refuse : ℕ → ℕ → A) (good : A) (n : ℕ) → Finds given (Ok n) offsets₀ offsets₁ sizes₀ sizes₁
       → spans_checked refuse offsets sizes good ≡ good

@@ -5,7 +5,7 @@ use mathlib.Core.Bool.{Bool, true, false, cond}
 use mathlib.Core.List.{List, [], ◌∷◌, ◌++◌, map, map-append}
 use Prim.Native.Nat.{ℕ, zero, suc, ◌+◌, ◌*◌, ◌/◌, ◌%◌, ◌^◌, ◌≤◌, ◌<◌, ◌-◌, max}
 use native.Mathlib.Omega.{arith}
-use native.Mathlib.Nat.{mod-lt, mul-one, pow-suc, pow-zero, div-lt_self, div-lt_iff_lt-mul, lt_of_lt_of_le, mul-le-mul_left, mul-le-mul_right, mul_comm, le-div_iff_mul-le, div-mul-le_self}
+use native.Mathlib.Nat.{mod-lt, mul-one, pow-suc, pow-zero, div-lt_self, div-lt_iff_lt-mul, div-eq_of_lt, mod-eq_of_lt, lt_of_lt_of_le, mul-le-mul_left, mul-le-mul_right, mul_comm, le-div_iff_mul-le, div-mul-le_self}
 use lib.Dec.{ltb}
 use lib.ListN.{length, replicate, length-append, length-map, length-replicate}
 use borrow.Author.Tests.{lt-ltb, le-ltb, ltb-false}
@@ -13,7 +13,7 @@ use Rattle.output.proofs.Order.{by_order}
 use Rattle.output.proofs.Pieces.{pieces_length}
 use Rattle.numbers.specs.declared.Letters.{Letters}
 use Rattle.numbers.specs.declared.Letters.TheVariants.{Lower, Upper}
-use Rattle.numbers.specs.Digits.{letter_ten, digit_char, digits_of, digits_in, digits, digit_count, number_text, padded}
+use Rattle.numbers.specs.Digits.{letter_ten, digit_char, byte_text, digits_of, digits_in, digits, digit_count, number_text, padded}
 
 pub letter_small : (letters : Letters) → letter_ten letters ≤ 97
 letter_small Lower = omega arith
@@ -92,6 +92,14 @@ pub number_more : (letters : Letters) (radix n : ℕ) → 2 ≤ radix → radix 
 unfolding number_text
 number_more letters radix n h l =
     ap (map (digit_char letters)) (digits_more radix n h l) ∙ map-append (digit_char letters) (digits radix (n / radix)) (n % radix ∷ [])
+
+-- A byte as two digits is the number in radix 16, filled with zeros to width 2: the Rust's `{:02x}` and `{:02X}`.
+pub byte_padded : (letters : Letters) (b : ℕ) → b < 256 → byte_text letters b ≡ padded 48 2 (number_text letters 16 b)
+unfolding byte_text padded digit_char
+byte_padded letters b h =
+    by_order b 16
+    (λ p. rw (number_last letters 16 b p, div-eq_of_lt p, mod-eq_of_lt p))
+    (λ p. rw (number_more letters 16 b (omega arith) p, number_last letters 16 (b / 16) (omega arith)))
 
 -- The text of a number has a character for each digit.
 pub number_length : (letters : Letters) (radix n : ℕ) → length (number_text letters radix n) ≡ digit_count radix n

@@ -21,6 +21,10 @@ pub flat_none : {A B : Type 0} (f : A → List B) → flat_map f [] ≡ []
 unfolding flat_map
 flat_none f = refl
 
+pub flat_next : {A B : Type 0} (f : A → List B) (x : A) (l : List A) → flat_map f (x ∷ l) ≡ f x ++ flat_map f l
+unfolding flat_map
+flat_next f x l = refl
+
 -- A text for each entry of a table is a text of pieces.
 pub flat_table : {A : Type 0} (f : A → List ℕ) (g : ℕ → A) (n : ℕ) → flat_map f (table g n) ≡ pieces (λ k. f (g k)) n
 unfolding table pieces flat_map

@@ -9,7 +9,7 @@ use native.Mathlib.Numerals.{add-one}
 use native.Mathlib.Omega.{arith}
 use lib.Dec.{ltb}
 use lib.ListN.{length, get_or, take, drop, set, length-append, get_or-append, drop_of_length-le}
-use lib.Seq.{sets, sets-eq, ext_get_or, get_or_at, take_at, take-suc, length-take-le, take-add, take-append_seam}
+use lib.Seq.{sets, sets-eq, ext_get_or, get_or_at, take_at, take-suc, length-take-le}
 use borrow.Author.Tests.{lt-ltb, le-ltb, ltb-false}
 use Rattle.output.proofs.Order.{by_order}
 use Rattle.output.proofs.Writes.{sets_append}
