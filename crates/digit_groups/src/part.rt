@@ -36,8 +36,10 @@ pub fn put_part(out: &mut [u8], at: usize, part: &[u8]) -> usize
         1 => output::put(out, at, part[0]),
         2 => put_fixed::<2>(out, at, part),
         3 => put_overlapping::<2>(out, at, part),
-        4..=7 => put_overlapping::<4>(out, at, part),
-        8..=16 => put_overlapping::<8>(out, at, part),
+        4 => put_fixed::<4>(out, at, part),
+        5..=7 => put_overlapping::<4>(out, at, part),
+        8 => put_fixed::<8>(out, at, part),
+        9..=16 => put_overlapping::<8>(out, at, part),
         _ => output::put_all(out, at, part),
     }
 }
