@@ -13,7 +13,7 @@ use Rattle.digits.specs.Run.{run}
 use Rattle.digits.proofs.Run.{run_append, run_length}
 use Rattle.digit_groups.specs.declared.groups.DigitGroups.{DigitGroups}
 use Rattle.digit_groups.specs.InnerGroups.{group_of}
-use Rattle.digit_groups.proofs.Parts.{front}
+use Rattle.output.proofs.Parts.{front}
 
 -- Part k of n parts of a run, in an array that starts with the run.
 run_part : {l₀ l₁ : List ℕ} {r : ℕ} (bytes : List ℕ) (len w i size n k : ℕ) → k < n → n * size ≤ length l₀ → Writes (run bytes len w i (n * size)) l₀ 0 l₁ r

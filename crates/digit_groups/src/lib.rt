@@ -7,10 +7,9 @@ ghost use Rattle.output.specs.Writes.{Writes};
 ghost use Rattle.digit_groups.specs.InnerGroups.{groups_from, groups_text};
 
 pub use groups::DigitGroups;
-pub use part::put_part;
+pub use output::put_part;
 
 mod groups;
-mod part;
 
 // What writes a group.
 pub trait PutGroup {

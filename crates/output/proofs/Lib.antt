@@ -1,6 +1,7 @@
 pub mod Order
 pub mod Exhaust
 pub mod Writes
+pub mod Parts
 pub mod Pieces
 pub mod Joined
 pub mod Lists

@@ -8,6 +8,10 @@ ghost use Rattle.std.specs.Prelude.{◌≡◌, [], ◌∷◌, ◌+◌, ◌-◌, 
 ghost use Rattle.output.specs.Pieces.{leading, every};
 ghost use Rattle.output.specs.Writes.{Writes};
 
+mod part;
+
+pub use part::put_part;
+
 // Stores one byte.
 pub fn put(out: &mut [u8], at: usize, byte: u8) -> usize
     requires { at < length out.old }
@@ -17,7 +21,7 @@ pub fn put(out: &mut [u8], at: usize, byte: u8) -> usize
     at + 1
 }
 
-// Stores all of `s`. The compiler makes a `memcpy` of the loop: `copy_from_slice` is a `memmove`, a name more
+// Stores all of `s`. The compiler makes vector code of the loop: `copy_from_slice` is a `memmove`, a name more
 // that the archive for C would need from outside.
 pub fn put_all(out: &mut [u8], at: usize, s: &[u8]) -> usize
     requires { at + length s.now ≤ length out.old }
@@ -30,20 +34,13 @@ pub fn put_all(out: &mut [u8], at: usize, s: &[u8]) -> usize
     next
 }
 
-// Stores all of `s` too: a text of one or two bytes by single stores, so that no copy is called. It
-// stands beside `put_all`, which is a copy alone, for texts whose length is seldom more.
+// Stores all of `s` too, which is seldom long: a string between items. It stands beside `put_all`, which is a
+// loop alone.
 pub fn put_text(out: &mut [u8], at: usize, s: &[u8]) -> usize
     requires { at + length s.now ≤ length out.old }
     ensures { Writes s.now out.old at out.new result }
 {
-    match s {
-        [first] => put(out, at, *first),
-        [first, second] => {
-            let next = put(out, at, *first);
-            put(out, next, *second)
-        }
-        _ => put_all(out, at, s),
-    }
+    put_part(out, at, s)
 }
 
 // Stores `count` times one byte.

@@ -1,10 +1,10 @@
--- `digit_groups::part::put_overlapping` meets its contract: the second store may go over the end of the first.
+-- `output::part::put_overlapping` meets its contract: the second store may go over the end of the first.
 -- Assumes nothing.
 use Prim.Native.Nat.{◌-◌}
 use lib.ListN.{length}
 use Rattle.std.proofs.lemmas.List.{take_rest}
-use Rattle.digit_groups.proofs.Parts.{writes_twice}
-use Rattle.digit_groups.proofs.part.put_overlapping.Goals as goal
+use Rattle.output.proofs.Parts.{writes_twice}
+use Rattle.output.proofs.part.put_overlapping.Goals as goal
 
 pub returns : goal.returns
 returns g c =

@@ -12,7 +12,7 @@ fn put_fixed<const N: usize>(out: &mut [u8], at: usize, part: &[u8]) -> usize
 {
     let mut copied = [0; N];
     copied.copy_from_slice(part);
-    output::put_all(out, at, &copied)
+    crate::put_all(out, at, &copied)
 }
 
 // Stores a part of `N` to twice as many characters, as two stores of `N` that may overlap.
@@ -26,20 +26,20 @@ fn put_overlapping<const N: usize>(out: &mut [u8], at: usize, part: &[u8]) -> us
     put_fixed::<N>(out, at + behind, &part[behind..])
 }
 
-// Stores a part. One of up to sixteen characters is one store or two, whose size goes by the part's: a copy
-// of the part's length is a call, which takes three to five times as long.
+// Stores a part. One of up to 64 characters is one store or two, whose size goes by the part's: a loop, or a
+// copy of the part's length, which is a call, takes three to five times as long.
 pub fn put_part(out: &mut [u8], at: usize, part: &[u8]) -> usize
     requires { at + length part.now ≤ length out.old }
     ensures { Writes part.now out.old at out.new result }
 {
     match part.len() {
-        1 => output::put(out, at, part[0]),
+        1 => crate::put(out, at, part[0]),
         2 => put_fixed::<2>(out, at, part),
         3 => put_overlapping::<2>(out, at, part),
-        4 => put_fixed::<4>(out, at, part),
-        5..=7 => put_overlapping::<4>(out, at, part),
-        8 => put_fixed::<8>(out, at, part),
-        9..=16 => put_overlapping::<8>(out, at, part),
-        _ => output::put_all(out, at, part),
+        4..=7 => put_overlapping::<4>(out, at, part),
+        8..=16 => put_overlapping::<8>(out, at, part),
+        17..=32 => put_overlapping::<16>(out, at, part),
+        33..=64 => put_overlapping::<32>(out, at, part),
+        _ => crate::put_all(out, at, part),
     }
 }
