@@ -26,8 +26,8 @@ fn put_overlapping<const N: usize>(out: &mut [u8], at: usize, part: &[u8]) -> us
     put_fixed::<N>(out, at + behind, &part[behind..])
 }
 
-// Stores a part. One of up to 64 characters is one store or two, whose size goes by the part's: a loop, or a
-// copy of the part's length, which is a call, takes three to five times as long.
+// Stores a part. One of up to 64 characters is one store or two, whose size goes by the part's: a copy of the
+// part's length is a call, and a loop, tried for separators of 16 characters, made the list 1.4 times as slow.
 pub fn put_part(out: &mut [u8], at: usize, part: &[u8]) -> usize
     requires { at + length part.now ≤ length out.old }
     ensures { Writes part.now out.old at out.new result }
